@@ -1,0 +1,4 @@
+-- Laws of lists by their places, of tallies, and of both under a map.
+pub mod Places
+pub mod Tallies
+pub mod Maps

@@ -1,0 +1,17 @@
+-- A list by its places: what stands at a place, and a list with one place taken out. Assumes nothing.
+use mathlib.Core.Path.{_≡_}
+use Prim.Native.Nat.{ℕ, zero, suc}
+use mathlib.Core.Option.{Option, some}
+use mathlib.Core.List.{List, [], _∷_}
+use lib.ListN.{getElem?}
+
+module _ {A : Type 0} where
+  -- place i of l holds x. A record, and not the equation itself: a proof of it then shows l, i and x, and no caller writes them
+  pub record At (l : List A) (i : ℕ) (x : A) : Type 0 where
+    pub is : getElem? l i ≡ some x
+
+  -- l without its place i: the later ones move down
+  abbrev pub erase : List A → ℕ → List A
+  erase [] i = []
+  erase (x ∷ xs) zero = xs
+  erase (x ∷ xs) (suc i) = x ∷ erase xs i
