@@ -1,0 +1,3 @@
+-- Laws of short texts and of roles.
+pub mod Letters
+pub mod Roles

@@ -1,0 +1,4 @@
+pub mod Letters
+pub mod Roles
+pub mod Refusals
+pub mod Statuses
