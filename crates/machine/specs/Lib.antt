@@ -5,3 +5,4 @@ pub mod Tests
 pub mod Told
 pub mod Machine
 pub mod Reads
+pub mod Sound

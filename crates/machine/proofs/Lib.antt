@@ -1,0 +1,8 @@
+-- What is true of the machine. Theorems.antt has the ones that document 01 asks for, by name; the rest is on the way to them.
+pub mod Plans
+pub mod Look
+pub mod KeepRoll
+pub mod KeepRooms
+pub mod KeepJudged
+pub mod KeepCounted
+pub mod Keep
