@@ -1,9 +1,10 @@
 -- A list by its places: what stands at a place, and a list with one place taken out. Assumes nothing.
 use mathlib.Core.Path.{_≡_}
-use Prim.Native.Nat.{ℕ, zero, suc}
-use mathlib.Core.Option.{Option, some}
-use mathlib.Core.List.{List, [], _∷_}
+use Prim.Native.Nat.{suc, zero, ℕ}
+use borrow.Fn.PlainCycle.{is}
 use lib.ListN.{getElem?}
+use mathlib.Core.List.{List, [], _∷_}
+use mathlib.Core.Option.{some}
 
 module _ {A : Type 0} where
   -- place i of l holds x. A record, and not the equation itself: a proof of it then shows l, i and x, and no caller writes them
@@ -15,3 +16,8 @@ module _ {A : Type 0} where
   erase [] i = []
   erase (x ∷ xs) zero = xs
   erase (x ∷ xs) (suc i) = x ∷ erase xs i
+
+-- n numbers, from k on
+abbrev pub upto : ℕ → ℕ → List ℕ
+upto k zero = []
+upto k (suc n) = k ∷ upto (suc k) n

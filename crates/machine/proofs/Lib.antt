@@ -6,3 +6,7 @@ pub mod KeepRooms
 pub mod KeepJudged
 pub mod KeepCounted
 pub mod Keep
+pub mod Induction
+pub mod Statuses
+pub mod Registrations
+pub mod Pending

@@ -1,7 +1,7 @@
 -- A call as a plan: its tests in order, each with its refusal, and what is done if none refuses. `outcome` runs a plan, first match wins.
 -- `Gives P` says what is to be shown so that P holds of what a plan does: it computes to a function of the tests' answers. Assumes nothing.
 use mathlib.Core.Path.{_≡_}
-use mathlib.Core.Bool.{Bool, false, cond}
+use mathlib.Core.Bool.{Bool, cond, false, true}
 use mathlib.Core.Option.{Option, none, some}
 use Rattle.records.specs.declared.refusal.Refusal.{Refusal}
 
@@ -53,3 +53,7 @@ module _ {A : Type 0} where
 abbrev pub onto : {A B : Type 0} → (A → B) → Outcome A → Outcome B
 onto f (refused e) = refused e
 onto f (did a) = did (f a)
+
+abbrev pub was-done : {A : Type 0} → Outcome A → Bool
+was-done (refused e) = false
+was-done (did a) = true

@@ -68,16 +68,19 @@ abbrev pub page : Ledger → ℕ → ℕ → List ℕ
 page L from limit = take (page-end L from limit - from) (drop from (L .log))
 
 -- slot j, which names request n: an entry's other fields are those of the request's proof; a slot without a proof is passed over, as the source does
+abbrev pub entry : ℕ → ApprovalProof → PageEntry
+entry j p = record {
+  slot = j;
+  «request_id» = p .«request_id»;
+  «agent_registration_id» = p .«agent_registration_id»;
+  «approver_registration_id» = p .«approver_registration_id»;
+  «requested_at» = p .«requested_at»;
+  «approved_at» = p .«approved_at»;
+}
+
 abbrev pub entry-by : ℕ → Option (Texted ApprovalProof) → List PageEntry
 entry-by j none = []
-entry-by j (some p) = record {
-  slot = j;
-  «request_id» = p .is .«request_id»;
-  «agent_registration_id» = p .is .«agent_registration_id»;
-  «approver_registration_id» = p .is .«approver_registration_id»;
-  «requested_at» = p .is .«requested_at»;
-  «approved_at» = p .is .«approved_at»;
-} ∷ []
+entry-by j (some p) = entry j (p .is) ∷ []
 
 abbrev pub entries-from : Ledger → ℕ → List ℕ → List PageEntry
 entries-from L j [] = []
