@@ -7,10 +7,9 @@ use lib.ListN.{length, set}
 use mathlib.Core.Bool.{Bool, _&&_, cond, false, true}
 use mathlib.Core.List.{List, [], _++_, _∷_}
 use mathlib.Core.Option.{Option, none, some}
-use types.Kit.{given}
+use types.Kit.{given, later}
 use Rattle.lists.specs.Places.{At}
 use Rattle.lists.specs.Tallies.{bit}
-use Rattle.machine.proofs.Statuses.{later}
 use Rattle.machine.specs.Machine.{Given, decided, left, step}
 use Rattle.machine.specs.Plan.{did, was-done}
 use Rattle.machine.specs.Reads.{approval, revocations, status}
@@ -108,11 +107,11 @@ pub record Hist (L : Ledger) (c : Change) (M : Ledger) : Type 0 where
   pub hist-1-2-3 : Grows L M
   pub hist-4-requests : length (M .requests) ≡ length (L .requests) + bit (ok L c && is-request c)
   pub hist-4-log : length (M .log) ≡ length (L .log) + bit (ok L c && is-approve c)
-  pub hist-5 : {n : ℕ} {p : Texted ApprovalProof} → approval L n ≡ some p → approval M n ≡ some p
+  pub hist-5 : (n : ℕ) (p : Texted ApprovalProof) → approval L n ≡ some p → approval M n ≡ some p
   pub hist-6-refused : ok L c ≡ false → M ≡ L
   pub hist-6-managed : Managed L c M
-  pub hist-8 : {n : ℕ} → status L n ≡ did Status.Void → status M n ≡ did Status.Void
-  pub hist-9 : {n : ℕ} → status L n ≡ did Status.Rejected → status M n ≡ did Status.Rejected
+  pub hist-8 : (n : ℕ) → status L n ≡ did Status.Void → status M n ≡ did Status.Void
+  pub hist-9 : (n : ℕ) → status L n ≡ did Status.Rejected → status M n ≡ did Status.Rejected
   pub hist-10-made : length (M .revoked) ≡ length (L .revoked) + bit (ok L c && is-add c)
   pub hist-10-ended : Ended L c M
 
