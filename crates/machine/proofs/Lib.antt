@@ -10,3 +10,6 @@ pub mod Induction
 pub mod Statuses
 pub mod Registrations
 pub mod Pending
+pub mod Pages
+pub mod Replay
+pub mod Decisions

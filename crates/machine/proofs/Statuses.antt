@@ -81,13 +81,13 @@ module _ {A : Type 0} (q : A → Bool) where
   says none = false
   says (some x) = q x
 
-  says-snoc : (l : List A) (x : A) (n : ℕ) → q x ≡ false → says (getElem? (l ++ x ∷ []) n) ≡ says (getElem? l n)
+  pub says-snoc : (l : List A) (x : A) (n : ℕ) → q x ≡ false → says (getElem? (l ++ x ∷ []) n) ≡ says (getElem? l n)
   says-snoc [] x zero e = e
   says-snoc [] x (suc n) e = refl
   says-snoc (y ∷ ys) x zero e = refl
   says-snoc (y ∷ ys) x (suc n) e = says-snoc ys x n e
 
-  says-set : {l : List A} {i : ℕ} {x : A} (y : A) (n : ℕ) → At l i x → q x ≡ false → says (getElem? (set l i y) n) ≡ says (getElem? l n) || (q y && eqb i n)
+  pub says-set : {l : List A} {i : ℕ} {x : A} (y : A) (n : ℕ) → At l i x → q x ≡ false → says (getElem? (set l i y) n) ≡ says (getElem? l n) || (q y && eqb i n)
   says-set {l = []} y n h e = absurd (at-nil h)
   says-set {l = z ∷ zs} {i = zero} y zero h e = sym (ap (λ (b : Bool). b || (q y && true)) (ap q (at-head h) ∙ e) ∙ and-true (q y))
   says-set {l = z ∷ zs} {i = zero} y (suc n) h e = rw (eqb·zero-suc, and-false) (sym (or-false (says (getElem? zs n))))
@@ -220,7 +220,7 @@ tells owner = from-opened Tells (λ h L s t. tell-plan s t) owner (tells-opened 
 
 -- ---- the status
 -- in a sound ledger a request is live exactly if its registration is not over
-live-or-over : (L : Ledger) → Sound L → {n : ℕ} {a : Asked} → At (asks L) n a → over (getElem? (L .revoked) (a .number)) ≡ not (present (live L n a))
+pub live-or-over : (L : Ledger) → Sound L → {n : ℕ} {a : Asked} → At (asks L) n a → over (getElem? (L .revoked) (a .number)) ≡ not (present (live L n a))
 live-or-over L s {n} {a} ha = let b = at-below (L .revoked) (a .number) (s .roll .known ha) in rw (b .1 .is) (go (b .0) (b .1) (live L n a) refl)
   where
     go : (o : Option BlockTime) → At (L .revoked) (a .number) o → (l : Option Place) → live L n a ≡ l → over (some o) ≡ not (present l)

@@ -177,14 +177,20 @@ abbrev pub answers : Ledger → List Change → List Answer
 answers L [] = []
 answers L (c ∷ cs) = answer (step L c) ∷ answers (left L (step L c)) cs
 
--- ---- decisions: how many changes decide request n
+-- ---- decisions: whether a change decides request n, and the account by which it does; the account that a change asks for
 abbrev pub decides : ℕ → Change → Bool
 decides n c = approves n c || rejects n c
 
--- the account by which a change asks or decides
-abbrev pub by : Change → ℕ
-by (add caller key account role) = caller
-by (revoke caller key now) = caller
-by (request c text now) = c .signer .0
-by (approve c m text now) = c .signer .0
-by (reject c m now) = c .signer .0
+abbrev pub decider : Change → Option ℕ
+decider (add caller key account role) = none
+decider (revoke caller key now) = none
+decider (request c text now) = none
+decider (approve c m text now) = some (c .signer .0)
+decider (reject c m now) = some (c .signer .0)
+
+abbrev pub asker : Change → Option ℕ
+asker (add caller key account role) = none
+asker (revoke caller key now) = none
+asker (request c text now) = some (c .signer .0)
+asker (approve c m text now) = none
+asker (reject c m now) = none
