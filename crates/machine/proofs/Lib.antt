@@ -13,3 +13,4 @@ pub mod Pending
 pub mod Pages
 pub mod Replay
 pub mod Decisions
+pub mod Gaps

@@ -1,23 +1,25 @@
 -- The reads (document 01, module 7; the source's `status_spec`, `approval_spec`, `approvals_spec`, reads.rs): none changes the ledger. Assumes nothing.
-use Prim.Native.Nat.{ℕ, zero, suc, _+_, _-_, min}
-use mathlib.Core.Option.{Option, none, some}
-use mathlib.Core.List.{List, [], _∷_, _++_}
-use lib.ListN.{length, getElem?, take, drop}
+use Prim.Native.Nat.{_+_, _-_, min, suc, ℕ}
 use lib.Dec.{ltb}
-use Rattle.records.specs.declared.BlockTime.{BlockTime}
+use lib.ListN.{drop, getElem?, length, take}
+use mathlib.Core.Bool.{Bool, _&&_, false, true}
+use mathlib.Core.List.{List, [], _++_, _∷_}
+use mathlib.Core.Option.{Option, none, some}
+use types.Run.{from}
+use Rattle.machine.specs.Plan.{Outcome, Plan, _>>=_, _>>_, done, found, outcome, refuse_if_}
+use Rattle.machine.specs.Rooms.{largest, page-limit}
+use Rattle.machine.specs.Tests.{Place, live, same}
+use Rattle.machine.specs.Told.{Texted, proof-of}
+use Rattle.machine.specs.Types.{Approved, Asked, Bytes, Decision, Ledger, Rejected, Request, Undecided}
 use Rattle.records.specs.declared.ApprovalProof.{ApprovalProof}
+use Rattle.records.specs.declared.BlockTime.{BlockTime}
 use Rattle.records.specs.declared.PageEntry.{PageEntry}
-use Rattle.records.specs.declared.Revocation.{Revocation}
-use Rattle.records.specs.declared.Revocation.the-variants as Revocation
 use Rattle.records.specs.declared.ProofRevocations.{ProofRevocations}
+use Rattle.records.specs.declared.Revocation.{Revocation}
+use Rattle.records.specs.declared.refusal.Refusal.the-variants.{PageRoom, RequestNotFound}
 use Rattle.records.specs.declared.status.RequestStatus.{RequestStatus}
+use Rattle.records.specs.declared.Revocation.the-variants as Revocation
 use Rattle.records.specs.declared.status.RequestStatus.the-variants as Status
-use Rattle.records.specs.declared.refusal.Refusal.the-variants.{RequestNotFound, PageRoom}
-use Rattle.machine.specs.Types.{Decision, Undecided, Approved, Rejected, Asked, Request, Ledger}
-use Rattle.machine.specs.Rooms.{page-limit, largest}
-use Rattle.machine.specs.Plan.{Plan, done, _>>=_, _>>_, refuse_if_, found, Outcome, outcome}
-use Rattle.machine.specs.Tests.{Place, live}
-use Rattle.machine.specs.Told.{Texted, request-id, registration-id, proof-of}
 
 -- ---- 'Status: 11'
 abbrev pub status-by : Option Place → Decision → RequestStatus
@@ -33,6 +35,16 @@ read-status L n o = do
 
 abbrev pub status : Ledger → ℕ → Outcome RequestStatus
 status L n = outcome (read-status L n (getElem? (L .requests) n))
+
+-- whether request r, of number n, is one of key k's Pending requests
+abbrev pub is-pending : RequestStatus → Bool
+is-pending Status.Pending = true
+is-pending Status.Approved = false
+is-pending Status.Rejected = false
+is-pending Status.Void = false
+
+abbrev pub pending-under : Ledger → Bytes → ℕ → Request → Bool
+pending-under L k n r = same (r .asked .key) k && is-pending (status-by (live L n (r .asked)) (r .decision))
 
 -- ---- 'Proof of a request: its record, or none'
 abbrev pub proof-by : ℕ → Asked → Decision → Option (Texted ApprovalProof)
