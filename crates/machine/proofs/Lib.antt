@@ -14,3 +14,4 @@ pub mod Pages
 pub mod Replay
 pub mod Decisions
 pub mod Gaps
+pub mod Examples

@@ -9,3 +9,4 @@ pub mod Sound
 pub mod History
 pub mod Walks
 pub mod Steps
+pub mod Examples

@@ -153,6 +153,12 @@ pub data Given : Type 0 where
   action : Texted ActionRequest → Given
   proof : Texted ApprovalProof → Given
 
+-- the number by which an accepted change is told: a registration's, a request's, or an approval's index
+abbrev pub told-by : Given → ℕ
+told-by (principal p) = p .«registration_id» .0
+told-by (action r) = r .is .id .0
+told-by (proof p) = p .is .«approval_index»
+
 abbrev pub giving : {A : Type 0} → (A → Given) → Did A → Plan (Did Given)
 giving f d = done (record { ledger = d .ledger; given = f (d .given) })
 
