@@ -2,3 +2,4 @@
 pub mod Places
 pub mod Tallies
 pub mod Maps
+pub mod Getting

@@ -15,3 +15,10 @@ pub mod Replay
 pub mod Decisions
 pub mod Gaps
 pub mod Examples
+pub mod Exec
+pub mod Grows
+pub mod Final
+pub mod Hist
+pub mod Duties
+pub mod Timed
+pub mod Phi

@@ -143,9 +143,9 @@ did-reject L c b n x now =
 abbrev pub reject-in : Ledger → Caller → ℕ → BlockTime → Plan (Did (Texted ActionRequest))
 reject-in L c n now = do
   b ← authenticate L c Approver
-  x ← decidable L n
-  refuse SelfApproval if eqb (c .signer .0) (x .req .asked .account)
-  done (did-reject L c b n x now)
+  y ← decidable L n
+  refuse SelfApproval if eqb (c .signer .0) (y .req .asked .account)
+  done (did-reject L c b n y now)
 
 -- ---- any change
 pub data Given : Type 0 where

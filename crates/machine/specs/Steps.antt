@@ -2,12 +2,11 @@
 -- The source's `Op` is `Change`, its `op_spec` is `step`; `full_inv`, which it names and does not show, is `Sound`. Assumes nothing.
 use mathlib.Core.Logic.{_≢_}
 use mathlib.Core.Path.{_≡_}
-use Prim.Native.Nat.{_+_, _-_, _≤_, one, ℕ}
+use Prim.Native.Nat.{_+_, _-_, _≤_, ℕ}
 use lib.ListN.{length, set}
 use mathlib.Core.Bool.{Bool, _&&_, cond, false, true}
 use mathlib.Core.List.{List, [], _++_, _∷_}
 use mathlib.Core.Option.{Option, none, some}
-use types.Kit.{given, later}
 use Rattle.lists.specs.Places.{At}
 use Rattle.lists.specs.Tallies.{bit}
 use Rattle.machine.specs.Machine.{Given, decided, left, step}

@@ -1,0 +1,5 @@
+pub mod Zeros
+pub mod Padded
+pub mod Regions
+pub mod Apart
+pub mod Finds
