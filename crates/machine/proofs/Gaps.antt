@@ -16,9 +16,10 @@ use Rattle.lists.proofs.Places.{at-below, at-lt, at-one}
 use Rattle.lists.proofs.Tallies.{tally-two}
 use Rattle.lists.specs.Places.{At}
 use Rattle.lists.specs.Tallies.{tally-from}
+use Rattle.machine.proofs.Bools.{and-false}
 use Rattle.machine.proofs.Keep.{asked-of, reg-of}
+use Rattle.machine.proofs.Live.{live-or-over, over}
 use Rattle.machine.proofs.Look.{lives, same-refl, same-true, seen}
-use Rattle.machine.proofs.Statuses.{and-false, live-or-over, over}
 use Rattle.machine.specs.Reads.{is-pending, pending-under, status-by}
 use Rattle.machine.specs.Rooms.{pending-limit}
 use Rattle.machine.specs.Sound.{Sound, slot, undecided-yet, waits}

@@ -1,4 +1,6 @@
--- What is true of the machine. Theorems.antt has the ones that document 01 asks for, by name; the rest is on the way to them.
+-- What is true of the machine: opening and each change keep the ledger sound (Keep), what the source's contracts leave open is closed (Gaps, Pages), document 01's
+-- examples hold (Examples). The rest is on the way.
+pub mod Bools
 pub mod Plans
 pub mod Look
 pub mod KeepRoll
@@ -6,19 +8,7 @@ pub mod KeepRooms
 pub mod KeepJudged
 pub mod KeepCounted
 pub mod Keep
-pub mod Induction
-pub mod Statuses
-pub mod Registrations
-pub mod Pending
+pub mod Live
 pub mod Pages
-pub mod Replay
-pub mod Decisions
 pub mod Gaps
 pub mod Examples
-pub mod Exec
-pub mod Grows
-pub mod Final
-pub mod Hist
-pub mod Duties
-pub mod Timed
-pub mod Phi

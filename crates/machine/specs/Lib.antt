@@ -6,7 +6,4 @@ pub mod Told
 pub mod Machine
 pub mod Reads
 pub mod Sound
-pub mod History
-pub mod Walks
-pub mod Steps
 pub mod Examples

@@ -8,19 +8,21 @@ use mathlib.Core.Bool.{Bool, cond, false, true}
 use mathlib.Core.List.{List, [], _++_, _∷_, append-nil, map}
 use mathlib.Core.Option.{Option, none, some}
 use native.Mathlib.Omega.{arith}
+use Rattle.history.proofs.Induction.{from-opened}
+use Rattle.history.proofs.Statuses.{later, pick-snoc}
+use Rattle.history.specs.History.{Event, accepted, addings, adds, end-told, ends, event, first-end, or-else, revoked-told}
+use Rattle.history.specs.Steps.{is-request}
 use Rattle.lists.proofs.Maps.{at-map, at-unmap, map-erase, map-snoc}
 use Rattle.lists.proofs.Places.{at-back, at-lt, at-nil, at-one, at-set, at-snoc, ext-at}
 use Rattle.lists.specs.Places.{At}
-use Rattle.machine.proofs.Induction.{from-opened}
 use Rattle.machine.proofs.Keep.{reg-of, regs-kept}
 use Rattle.machine.proofs.Look.{Seen, lives, same-refl, same-true, seen}
-use Rattle.machine.proofs.Statuses.{later, pick-snoc}
-use Rattle.machine.specs.History.{Event, accepted, addings, adds, end-told, ends, event, first-end, or-else, revoked-told}
+use Rattle.machine.specs.Examples.{key}
 use Rattle.machine.specs.Machine.{Did, Given, add-to, opened, plan, revoke-in, run}
 use Rattle.machine.specs.Plan.{Gives}
 use Rattle.machine.specs.Sound.{Sound}
 use Rattle.machine.specs.Tests.{Place, regs, same}
 use Rattle.machine.specs.Types.{Bytes, Change, Ledger, Registration, add, approve, reject, request, revoke}
 use Rattle.records.specs.declared.BlockTime.{BlockTime}
 use Rattle.records.specs.declared.Role.{Role}
 

@@ -6,10 +6,11 @@ use mathlib.Core.Bool.{Bool, _&&_, _||_, cond, false, not}
 use mathlib.Core.List.{List, [], _++_, _∷_, map}
 use mathlib.Core.Option.{Option, none, some}
 use Rattle.lists.specs.Tallies.{tally-from}
+use Rattle.machine.specs.Examples.{key}
 use Rattle.machine.specs.Machine.{Did, Given, left, step}
 use Rattle.machine.specs.Plan.{Outcome, did, refused}
 use Rattle.machine.specs.Tests.{Ruling, denying, granting, present, same, same-ruling}
 use Rattle.machine.specs.Types.{Bytes, Change, Ledger, add, approve, reject, request, revoke}
 use Rattle.records.specs.declared.BlockTime.{BlockTime}
 use Rattle.records.specs.declared.refusal.Refusal.{Refusal}
 use Rattle.records.specs.declared.status.RequestStatus.{RequestStatus}

@@ -2,28 +2,30 @@
 use mathlib.Core.Path.{_≡_, refl}
 use Prim.Native.Nat.{_+_, ℕ}
 use borrow.Author.Tests.{eqb-true, not-false}
+use lib.Ieee.{fits}
 use lib.ListN.{getElem?, length, length-set, set}
 use mathlib.Core.Bool.{Bool, _&&_, true}
 use mathlib.Core.List.{[], _++_, _∷_}
 use mathlib.Core.Option.{Option, none, some}
 use native.Mathlib.Omega.{arith}
+use Rattle.history.proofs.Exec.{by-plan, if-ok, if-refused}
+use Rattle.history.proofs.Final.{final-step}
+use Rattle.history.proofs.Grows.{grows-step, still-there}
+use Rattle.history.specs.Steps.{Ended, Grows, Hist, Managed, exec, is-add, is-approve, is-request, ok, same-reg}
 use Rattle.lists.proofs.Maps.{at-map}
 use Rattle.lists.proofs.Places.{at-one, length-snoc}
 use Rattle.lists.specs.Places.{At}
 use Rattle.lists.specs.Tallies.{bit}
-use Rattle.machine.proofs.Exec.{by-plan, if-ok, if-refused}
-use Rattle.machine.proofs.Final.{final-step}
-use Rattle.machine.proofs.Grows.{grows-step, still-there}
 use Rattle.machine.proofs.Keep.{reg-of, regs-kept}
 use Rattle.machine.proofs.Look.{lives, seen}
+use Rattle.machine.specs.Examples.{key}
 use Rattle.machine.specs.Machine.{Did, Given, asked-by, plan, verdict-of}
 use Rattle.machine.specs.Plan.{Gives}
 use Rattle.machine.specs.Reads.{approval, proof-by, proof-in}
 use Rattle.machine.specs.Sound.{Sound}
-use Rattle.machine.specs.Steps.{Ended, Grows, Hist, Managed, exec, is-add, is-approve, is-request, ok, same-reg}
 use Rattle.machine.specs.Tests.{Place, live, regs, seek}
 use Rattle.machine.specs.Told.{Texted}
 use Rattle.machine.specs.Types.{Approved, Asked, Change, Decision, Holder, Ledger, Rejected, Request, Undecided, add, approve, reject, request, revoke}
 use Rattle.records.specs.declared.ApprovalProof.{ApprovalProof}
 use Rattle.records.specs.declared.status.RequestStatus.the-variants as Status
 

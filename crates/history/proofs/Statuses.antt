@@ -1,7 +1,7 @@
 -- The history tells what the ledger holds. Assumes nothing.
 use mathlib.Core.Logic.{inl, inr}
 use mathlib.Core.Path.{_∙_, _≡_, ap, refl, sym}
-use Prim.Native.Nat.{_≤_, one, suc, zero, ℕ}
+use Prim.Native.Nat.{one, suc, zero, ℕ}
 use borrow.Author.Tests.{eqb-false, eqb-true}
 use lib.Dec.{eqb, eqb·suc-suc, eqb·suc-zero, eqb·zero-suc}
 use lib.Ieee.{fits}
@@ -10,19 +10,23 @@ use mathlib.Core.Bool.{Bool, _&&_, _||_, cond, false, not, true}
 use mathlib.Core.List.{List, [], _++_, _∷_, append-assoc, append-nil, map}
 use mathlib.Core.Option.{Option, none, some}
 use native.Mathlib.Omega.{arith}
+use Rattle.history.proofs.Induction.{from-opened}
+use Rattle.history.specs.History.{Event, accepted, answer-of, any, approved-by, approves, askings, asks-by, event, fate, log-told, names, pick, rejects, revokes, status-told}
+use Rattle.history.specs.Steps.{is-request}
 use Rattle.lists.proofs.Maps.{at-map, at-unmap, map-snoc}
 use Rattle.lists.proofs.Places.{at-below, at-head, at-lt, at-nil, at-none, at-one, at-set-other, at-set-same, at-snoc-two, down, getElem?-old, length-snoc}
 use Rattle.lists.specs.Places.{At}
-use Rattle.machine.proofs.Induction.{from-opened}
+use Rattle.machine.proofs.Bools.{and-false, and-true, or-false, or-true}
 use Rattle.machine.proofs.Keep.{asked-of, asks-kept, reg-of, sound-opened, sound-run}
-use Rattle.machine.proofs.Look.{Lives, Seen, lives, lives-back, same-refl, same-true, seen, undecided, unseen}
-use Rattle.machine.specs.History.{Event, accepted, answer-of, any, approved-by, approves, askings, asks-by, event, fate, log-told, names, pick, rejects, revokes, status-told}
+use Rattle.machine.proofs.Live.{live-or-over, over}
+use Rattle.machine.proofs.Look.{Seen, same-refl, same-true, seen, undecided}
+use Rattle.machine.specs.Examples.{key}
 use Rattle.machine.specs.Machine.{add-to, approve-in, asked-by, decided, opened, plan, reject-in, request-in, revoke-in, run}
 use Rattle.machine.specs.Plan.{Gives, outcome}
 use Rattle.machine.specs.Reads.{read-status, status, status-by}
-use Rattle.machine.specs.Sound.{Own, Sound}
-use Rattle.machine.specs.Tests.{Place, Ruling, approved, asks, decided-so, denying, granting, live, live-under, present, regs, rejected, same, seek}
-use Rattle.machine.specs.Types.{Approved, Asked, Bytes, Change, Decision, Ledger, Registration, Rejected, Request, Undecided, add, approve, reject, request, revoke}
+use Rattle.machine.specs.Sound.{Sound}
+use Rattle.machine.specs.Tests.{Place, Ruling, approved, asks, decided-so, denying, granting, live, present, regs, rejected, same}
+use Rattle.machine.specs.Types.{Approved, Asked, Bytes, Change, Decision, Ledger, Rejected, Request, Undecided, add, approve, reject, request, revoke}
 use Rattle.records.specs.declared.BlockTime.{BlockTime}
 use Rattle.records.specs.declared.Caller.{Caller}
 use Rattle.records.specs.declared.Role.{Role}
@@ -30,22 +34,6 @@ use Rattle.records.specs.declared.status.RequestStatus.{RequestStatus}
 use Rattle.records.specs.declared.status.RequestStatus.the-variants as Status
 
 -- ---- one more change
-pub or-false : (b : Bool) → (b || false) ≡ b
-or-false true = refl
-or-false false = refl
-
-pub or-true : (b : Bool) → (b || true) ≡ true
-or-true true = refl
-or-true false = refl
-
-and-true : (b : Bool) → (b && true) ≡ b
-and-true true = refl
-and-true false = refl
-
-pub and-false : (b : Bool) → (b && false) ≡ false
-and-false true = refl
-and-false false = refl
-
 pub any-snoc : (p : Change → Bool) (h : List Change) (c : Change) → any p (h ++ c ∷ []) ≡ any p h || p c
 any-snoc p [] c = or-false (p c)
 any-snoc p (d ∷ h) c = ap (λ (b : Bool). p d || b) (any-snoc p h c) ∙ assoc (p d) (any p h) (p c)
@@ -93,12 +81,6 @@ module _ {A : Type 0} (q : A → Bool) where
   says-set {l = z ∷ zs} {i = zero} y (suc n) h e = rw (eqb·zero-suc, and-false) (sym (or-false (says (getElem? zs n))))
   says-set {l = z ∷ zs} {i = suc i} y zero h e = rw (eqb·suc-zero, and-false) (sym (or-false (q z)))
   says-set {l = z ∷ zs} {i = suc i} y (suc n) h e = rw eqb·suc-suc (says-set y n (down h) e)
-
--- the time of the end, or none: is it over?
-abbrev pub over : Option (Option BlockTime) → Bool
-over none = false
-over (some none) = false
-over (some (some t)) = true
 
 pub record Tells (h : List Change) (L : Ledger) : Type 0 where
   pub many : length (askings h) ≡ length (asks L)
@@ -219,35 +201,6 @@ pub tells : (owner : ℕ) (cs : List Change) → Tells (accepted (opened owner) 
 tells owner = from-opened Tells (λ h L s t. tell-plan s t) owner (tells-opened owner)
 
 -- ---- the status
--- in a sound ledger a request is live exactly if its registration is not over
-pub live-or-over : (L : Ledger) → Sound L → {n : ℕ} {a : Asked} → At (asks L) n a → over (getElem? (L .revoked) (a .number)) ≡ not (present (live L n a))
-live-or-over L s {n} {a} ha = let b = at-below (L .revoked) (a .number) (s .roll .known ha) in rw (b .1 .is) (go (b .0) (b .1) (live L n a) refl)
-  where
-    go : (o : Option BlockTime) → At (L .revoked) (a .number) o → (l : Option Place) → live L n a ≡ l → over (some o) ≡ not (present l)
-    go none ho (some f) e = refl
-    go (some t) ho none e = refl
-    go none ho none e =
-        let o = s .roll .every ho in
-        find (seek (a .key) (L .keys)) refl (o .2) (s .roll .own (o .2) ha (sym (o .3))) (s .roll .alive (o .2) ha (s .roll .own (o .2) ha (sym (o .3)) .same-key) .1 (sym (o .3)))
-      where
-        find : (x : Option Place) → seek (a .key) (L .keys) ≡ x → {i : ℕ} {p : Registration} → At (regs L) i p → Own p a → p .active ≤ n → false ≡ true
-        find none q hp own since =
-            let b = at-unmap reg-of (L .keys) hp in
-            absurd (unseen (a .key) (L .keys) q _ (b .0) (b .1) (ap (λ (x : Registration). x .key) (b .2) ∙ sym (own .same-key)))
-        find (some f) q {p = p} hp own since =
-            let w = seen (a .key) (L .keys) q in
-            let one : f .is .reg ≡ p = at-one (at-map reg-of (w .here)) hp (s .roll .distinct (at-map reg-of (w .here)) hp (w .key ∙ own .same-key)) in
-            let l : Lives n a (f .is .reg) = rw one (record { agent = own .agent; account = sym (own .same-account); since = since }) in
-            let y = lives-back n a f l in
-            cc (ap (live-under n a) q)
-    go (some t) ho (some f) e =
-        let l = lives n a (seek (a .key) (L .keys)) e in
-        let w = seen (a .key) (L .keys) (l .0) in
-        let holder = at-map reg-of (w .here) in
-        let number = s .roll .alive holder ha (sym (w .key)) .0 (l .1 .since) in
-        let z = at-one ho (s .roll .in-force holder) number in
-        cc
-
 -- what decides a status, and how the history puts it
 fate-by : (d : Decision) (l : Option Place) → cond (approved d) Status.Approved (cond (rejected d) Status.Rejected (cond (not (present l)) Status.Void Status.Pending)) ≡ status-by l d
 fate-by Undecided none = refl

@@ -11,20 +11,23 @@ use mathlib.Core.List.{List, [], _++_, _∷_, append-nil, map}
 use mathlib.Core.Option.{Option, none, some}
 use native.Mathlib.Nat.{zero-add}
 use native.Mathlib.Omega.{arith}
+use Rattle.history.proofs.Induction.{from-opened}
+use Rattle.history.proofs.Statuses.{Tells, any-snoc, later, pick-snoc, says, tells}
+use Rattle.history.specs.History.{Event, accepted, adds-key, any, approves, askings, asks-by, event, pending-told, pends, rejects}
+use Rattle.history.specs.Steps.{is-request}
 use Rattle.lists.proofs.Maps.{at-map, at-unmap, map-erase, map-snoc}
 use Rattle.lists.proofs.Places.{at-back, at-nil, at-one, at-snoc, at-snoc-two, length-snoc}
 use Rattle.lists.proofs.Tallies.{tally-two}
 use Rattle.lists.specs.Places.{At}
-use Rattle.machine.proofs.Induction.{from-opened}
+use Rattle.machine.proofs.Bools.{and-false, or-false, or-true}
 use Rattle.machine.proofs.Keep.{asked-of, asks-kept, reg-of, regs-kept, sound-opened, sound-run, unregistered}
 use Rattle.machine.proofs.Look.{lives, same-false, same-refl, same-true, seen}
-use Rattle.machine.proofs.Statuses.{Tells, and-false, any-snoc, later, or-false, or-true, pick-snoc, says, tells}
-use Rattle.machine.specs.History.{Event, accepted, adds-key, any, approves, askings, asks-by, event, pending-told, pends, rejects}
+use Rattle.machine.specs.Examples.{key}
 use Rattle.machine.specs.Machine.{Did, Given, add-to, decided, opened, plan, request-in, run}
 use Rattle.machine.specs.Plan.{Gives}
 use Rattle.machine.specs.Sound.{Sound, undecided-yet, waits}
 use Rattle.machine.specs.Tests.{Place, approved, asks, denying, granting, live, regs, rejected, same}
 use Rattle.machine.specs.Types.{Approved, Asked, Bytes, Change, Decision, Holder, Ledger, Registration, Rejected, Request, Undecided, add, approve, reject, request, revoke}
 use Rattle.records.specs.declared.BlockTime.{BlockTime}
 use Rattle.records.specs.declared.Caller.{Caller}
 use Rattle.records.specs.declared.Role.{Role}

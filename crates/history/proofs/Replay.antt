@@ -1,10 +1,10 @@
 -- The accepted changes alone, tried again from the same ledger, are accepted, give what they gave and lead to the same ledger. Assumes nothing.
 use mathlib.Core.Path.{_∙_, _≡_, ap, refl, sym}
 use mathlib.Core.List.{List, [], _++_, _∷_, map}
-use Rattle.machine.specs.History.{Answer, accepted, answer, answers, gave, gifts, if-accepted, if-given}
+use Rattle.history.specs.History.{Answer, accepted, answer, answers, gave, gifts, if-accepted, if-given}
 use Rattle.machine.specs.Machine.{Did, Given, left, run, step}
 use Rattle.machine.specs.Plan.{Outcome, did, refused}
 use Rattle.machine.specs.Types.{Change, Ledger}
 
 pub record Replayed (L : Ledger) (cs : List Change) : Type 0 where
   pub same-ledger : run L (accepted L cs) ≡ run L cs

@@ -9,14 +9,15 @@ use mathlib.Core.List.{List, [], _++_, _∷_}
 use mathlib.Core.Option.{Option, none, some}
 use Rattle.lists.specs.Places.{At}
 use Rattle.lists.specs.Tallies.{bit}
+use Rattle.machine.specs.Examples.{asked, key}
 use Rattle.machine.specs.Machine.{Given, decided, left, step}
 use Rattle.machine.specs.Plan.{did, was-done}
 use Rattle.machine.specs.Reads.{approval, revocations, status}
 use Rattle.machine.specs.Rooms.{pending-limit}
 use Rattle.machine.specs.Sound.{slot, verdict}
 use Rattle.machine.specs.Tests.{Place, approved, regs, rejected, same-role, seek}
 use Rattle.machine.specs.Told.{Texted}
 use Rattle.machine.specs.Types.{Approved, Bytes, Change, Holder, Ledger, Rejected, Request, Verdict, add, approve, reject, request, revoke}
 use Rattle.records.specs.declared.ApprovalProof.{ApprovalProof}
 use Rattle.records.specs.declared.BlockTime.{BlockTime}
 use Rattle.records.specs.declared.Role.the-variants.{Agent}

@@ -1,12 +1,12 @@
 -- A sound ledger keeps the duties apart, and a step of the source's kind leads from a sound ledger to a sound one. Assumes nothing.
 use mathlib.Core.Path.{_≡_, ap, refl, sym}
 use mathlib.Core.Bool.{_&&_, false}
+use Rattle.history.specs.Steps.{Duties, StepsTo, exec}
 use Rattle.machine.proofs.Keep.{sound-step}
 use Rattle.machine.specs.Machine.{left}
 use Rattle.machine.specs.Sound.{Sound, verdict}
-use Rattle.machine.specs.Steps.{Duties, StepsTo, exec}
 use Rattle.machine.specs.Tests.{approved, rejected}
 use Rattle.machine.specs.Types.{Approved, Change, Decision, Ledger, Rejected, Undecided}
 
 pub duties : {L : Ledger} → Sound L → Duties L
 duties s = record {

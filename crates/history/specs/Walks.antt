@@ -4,12 +4,11 @@ use Prim.Native.Nat.{_+_, suc, zero, ℕ}
 use lib.ListN.{length}
 use mathlib.Core.List.{List, [], _++_, _∷_, map}
 use mathlib.Core.Option.{some}
-use types.Run.{from}
 use Rattle.lists.specs.Places.{At, upto}
 use Rattle.machine.specs.Machine.{run}
 use Rattle.machine.specs.Reads.{approval, entries, entry}
 use Rattle.machine.specs.Told.{Texted}
 use Rattle.machine.specs.Types.{Change, Ledger}
 use Rattle.records.specs.declared.ApprovalProof.{ApprovalProof}
 use Rattle.records.specs.declared.PageEntry.{PageEntry}
 

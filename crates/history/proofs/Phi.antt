@@ -2,27 +2,29 @@
 use mathlib.Core.Path.{_≡_, refl, sym}
 use Prim.Native.Nat.{_+_, _-_, _≤_, pred, suc, ℕ}
 use borrow.Author.Tests.{eq-eqb, leb-false, not-false}
+use lib.Ieee.{fits}
 use lib.ListN.{getElem?}
 use mathlib.Core.Bool.{Bool, cond, false, true}
 use mathlib.Core.List.{List, [], _∷_}
 use mathlib.Core.Option.{Option, none, some}
 use native.Mathlib.Omega.{arith}
+use Rattle.history.proofs.Exec.{if-ok}
+use Rattle.history.specs.History.{Naming, naming}
+use Rattle.history.specs.Steps.{exec, is-request, ok, phi, phi-of}
 use Rattle.lists.proofs.Maps.{at-map}
 use Rattle.lists.proofs.Places.{at-one}
 use Rattle.lists.proofs.Tallies.{tally-set}
 use Rattle.lists.specs.Places.{At}
 use Rattle.lists.specs.Tallies.{bit}
-use Rattle.machine.proofs.Exec.{if-ok}
 use Rattle.machine.proofs.Keep.{asked-of, reg-of}
 use Rattle.machine.proofs.Look.{lives, role-true, seen, undecided}
-use Rattle.machine.specs.History.{Naming, naming}
+use Rattle.machine.specs.Examples.{key}
 use Rattle.machine.specs.Machine.{with-pending}
 use Rattle.machine.specs.Rooms.{pending-limit}
 use Rattle.machine.specs.Sound.{Sound, waits}
-use Rattle.machine.specs.Steps.{exec, ok, phi, phi-of}
 use Rattle.machine.specs.Tests.{Place, approved, live, next, rejected, same, same-role, seek}
 use Rattle.machine.specs.Told.{no-verdict}
 use Rattle.machine.specs.Types.{Bytes, Change, Holder, Ledger, Rejected, Request, add, approve, reject, request, revoke}
 use Rattle.records.specs.declared.BlockTime.{BlockTime}
 use Rattle.records.specs.declared.Caller.{Caller}
 use Rattle.records.specs.declared.Role.the-variants.{Agent}

@@ -2,20 +2,22 @@
 use mathlib.Core.Logic.{_⊎_, inl, inr}
 use mathlib.Core.Path.{_∙_, _≡_, ap, refl, sym}
 use Prim.Native.Nat.{_*_, ℕ}
+use lib.Ieee.{fits, le}
 use lib.ListN.{getElem?, length, replicate}
 use mathlib.Core.List.{List, [], _∷_}
 use mathlib.Core.Option.{some}
 use native.Mathlib.Omega.{arith}
+use Rattle.history.proofs.Exec.{by-plan}
+use Rattle.history.specs.Steps.{ApprovedAt, Clock, Rising, Timed, Tle, exec, is-request, last-now, op-now}
 use Rattle.lists.proofs.Places.{at-lt, at-nil, at-set, at-snoc}
 use Rattle.lists.specs.Places.{At}
-use Rattle.machine.proofs.Exec.{by-plan}
 use Rattle.machine.proofs.Keep.{sound-opened, sound-step}
+use Rattle.machine.specs.Examples.{asked, each, key}
 use Rattle.machine.specs.Machine.{Did, Given, decided, opened, plan, run}
 use Rattle.machine.specs.Plan.{Gives}
 use Rattle.machine.specs.Sound.{Sound, slot, verdict}
-use Rattle.machine.specs.Steps.{ApprovedAt, Clock, Rising, Timed, Tle, exec, last-now, op-now}
-use Rattle.machine.specs.Tests.{Place}
+use Rattle.machine.specs.Tests.{Place, same}
 use Rattle.machine.specs.Types.{Approved, Change, Decision, Ledger, Rejected, Request, Undecided, Verdict, add, approve, reject, request, revoke}
 use Rattle.records.specs.declared.BlockTime.{BlockTime}
 use Rattle.records.specs.declared.Caller.{Caller}
 use Rattle.records.specs.declared.Role.the-variants.{Agent, Approver}

@@ -1,13 +1,13 @@
 -- One induction for every fact about a history: what each accepted change keeps, a run's accepted changes have. Assumes nothing.
 use Prim.Native.Nat.{ℕ}
 use mathlib.Core.List.{List, [], _++_, _∷_, append-assoc, append-nil}
+use Rattle.history.specs.History.{accepted, if-accepted}
 use Rattle.machine.proofs.Keep.{sound-opened, sound-step}
 use Rattle.machine.proofs.Plans.{gives}
-use Rattle.machine.specs.History.{accepted, if-accepted}
 use Rattle.machine.specs.Machine.{Did, Given, left, opened, plan, run, step}
 use Rattle.machine.specs.Plan.{Gives, Holds, Outcome, did, refused}
 use Rattle.machine.specs.Sound.{Sound}
 use Rattle.machine.specs.Types.{Change, Ledger}
 
 module _ (I : List Change → Ledger → Type 0) (keeps : (h : List Change) (L : Ledger) → Sound L → I h L → (c : Change) → Gives (λ (d : Did Given). I (h ++ c ∷ []) (d .ledger)) (plan L c)) where
   pub replay : (h : List Change) (L : Ledger) → Sound L → I h L → (cs : List Change) → I (h ++ accepted L cs) (run L cs)

@@ -10,22 +10,24 @@ use mathlib.Core.Bool.{Bool, _||_, false, not, true}
 use mathlib.Core.List.{List, [], _++_, _∷_, append-nil, map}
 use mathlib.Core.Option.{Option, none, some}
 use native.Mathlib.Omega.{arith}
+use Rattle.history.proofs.Induction.{from-opened}
+use Rattle.history.proofs.Statuses.{later, pick-snoc, says, says-set, says-snoc}
+use Rattle.history.specs.History.{Event, accepted, asker, decider, decides, event, pick}
+use Rattle.history.specs.Steps.{is-request}
 use Rattle.lists.proofs.Maps.{at-map, map-snoc}
 use Rattle.lists.proofs.Places.{at-nil, at-old, at-one, at-snoc}
 use Rattle.lists.proofs.Tallies.{bit-le, tally-snoc}
 use Rattle.lists.specs.Places.{At}
 use Rattle.lists.specs.Tallies.{bit, tally}
-use Rattle.machine.proofs.Induction.{from-opened}
+use Rattle.machine.proofs.Bools.{or-false}
 use Rattle.machine.proofs.Keep.{asked-of, asks-kept}
 use Rattle.machine.proofs.Look.{undecided}
-use Rattle.machine.proofs.Statuses.{later, or-false, pick-snoc, says, says-set, says-snoc}
-use Rattle.machine.specs.History.{Event, accepted, asker, decider, decides, event, pick}
+use Rattle.machine.specs.Examples.{key}
 use Rattle.machine.specs.Machine.{asked-by, decided, opened, plan, request-in, run}
 use Rattle.machine.specs.Plan.{Gives}
 use Rattle.machine.specs.Sound.{undecided-yet}
-use Rattle.machine.specs.Steps.{is-request}
 use Rattle.machine.specs.Tests.{Place, asks}
 use Rattle.machine.specs.Types.{Asked, Bytes, Change, Decision, Ledger, Request, Undecided, add, approve, reject, request, revoke}
 use Rattle.records.specs.declared.BlockTime.{BlockTime}
 use Rattle.records.specs.declared.Caller.{Caller}
 

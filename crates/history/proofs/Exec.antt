@@ -1,11 +1,11 @@
 -- How a fact about a change is shown: of a refusal, which leaves the ledger as it was, and of what its plan does. Assumes nothing.
 use mathlib.Core.Path.{_≡_, refl, sym}
 use mathlib.Core.Bool.{Bool, false, false≢true, true}
+use Rattle.history.specs.Steps.{exec, ok}
 use Rattle.machine.proofs.Plans.{gives}
 use Rattle.machine.specs.Machine.{Did, Given, left, plan, step}
 use Rattle.machine.specs.Plan.{Gives, Holds, Outcome, did, refused, was-done}
-use Rattle.machine.specs.Steps.{exec, ok}
 use Rattle.machine.specs.Types.{Change, Ledger}
 
 module _ (L : Ledger) (c : Change) where
   -- Q may ask whether the change was accepted

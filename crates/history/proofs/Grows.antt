@@ -2,23 +2,26 @@
 use mathlib.Core.Logic.{_⊎_, inl, inr}
 use mathlib.Core.Path.{_∙_, _≡_, ap, refl, sym}
 use Prim.Native.Nat.{_≤_, ℕ}
+use lib.Ieee.{fits}
 use lib.ListN.{getElem?, length, length-append, length-set}
 use mathlib.Core.Bool.{false}
 use mathlib.Core.List.{List, [], _++_, _∷_, append-nil}
 use mathlib.Core.Option.{Option, none, some}
 use native.Mathlib.Omega.{arith}
+use Rattle.history.proofs.Exec.{by-plan}
+use Rattle.history.specs.History.{ends}
+use Rattle.history.specs.Steps.{Grows, exec, is-request}
 use Rattle.lists.proofs.Maps.{at-map}
 use Rattle.lists.proofs.Places.{at-below, at-lt, at-old, at-one, at-set, at-set-other, length-snoc}
 use Rattle.lists.specs.Places.{At}
-use Rattle.machine.proofs.Exec.{by-plan}
 use Rattle.machine.proofs.Keep.{reg-of, sound-step}
 use Rattle.machine.proofs.Look.{seen, undecided}
+use Rattle.machine.specs.Examples.{asked, each, key}
 use Rattle.machine.specs.Machine.{Did, Given, asked-by, decided, plan, run}
 use Rattle.machine.specs.Plan.{Gives}
-use Rattle.machine.specs.Sound.{Sound, undecided-yet}
-use Rattle.machine.specs.Steps.{Grows, exec}
+use Rattle.machine.specs.Sound.{Sound, slot, undecided-yet}
 use Rattle.machine.specs.Tests.{Place, live}
 use Rattle.machine.specs.Types.{Change, Decision, Ledger, Request, Undecided, add, approve, reject, request, revoke}
 use Rattle.records.specs.declared.BlockTime.{BlockTime}
 
 -- what a change leaves of request n: what was asked; and the decision, but of a request that was undecided and live

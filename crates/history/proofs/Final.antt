@@ -7,20 +7,20 @@ use lib.ListN.{getElem?}
 use mathlib.Core.Bool.{Bool, false, false≢true, not, true}
 use mathlib.Core.List.{List, [], _∷_}
 use mathlib.Core.Option.{Option, none, some}
+use Rattle.history.proofs.Grows.{advances-step, grows-step, still-there}
+use Rattle.history.specs.Steps.{Grows, exec}
 use Rattle.lists.proofs.Maps.{at-map}
 use Rattle.lists.proofs.Places.{at-below}
 use Rattle.lists.specs.Places.{At}
-use Rattle.machine.proofs.Grows.{advances-step, grows-step, still-there}
 use Rattle.machine.proofs.Keep.{asked-of, sound-step}
+use Rattle.machine.proofs.Live.{live-or-over, over}
 use Rattle.machine.proofs.Look.{absent}
-use Rattle.machine.proofs.Statuses.{live-or-over, over}
 use Rattle.machine.specs.Machine.{run}
 use Rattle.machine.specs.Plan.{Outcome, did, outcome}
 use Rattle.machine.specs.Reads.{read-status, status, status-by}
 use Rattle.machine.specs.Sound.{Sound}
-use Rattle.machine.specs.Steps.{Grows, exec}
-use Rattle.machine.specs.Tests.{Place, asks, live, present}
+use Rattle.machine.specs.Tests.{Place, asks, live, present, same}
 use Rattle.machine.specs.Types.{Approved, Asked, Change, Decision, Ledger, Rejected, Request, Undecided}
 use Rattle.records.specs.declared.BlockTime.{BlockTime}
 use Rattle.records.specs.declared.status.RequestStatus.{RequestStatus}
 use Rattle.records.specs.declared.status.RequestStatus.the-variants as Status
