@@ -13,3 +13,4 @@ pub mod Hist
 pub mod Duties
 pub mod Timed
 pub mod Phi
+pub mod Walk

@@ -1,14 +1,13 @@
 -- What each place of a changed list holds: one more at the end, a store, a place taken out, a part. Assumes nothing.
-use mathlib.Core.Path.{_≡_, refl, sym, ap, _∙_, subst}
 use mathlib.Core.Logic.{_≢_, _⊎_, inl, inr}
-use Prim.Native.Nat.{ℕ, zero, suc, _+_, _-_, _≤_, _<_, suc-le-suc}
-use native.Mathlib.Nat.{le-of-suc-le-suc, not-suc-le-zero, zero-lt-suc, suc-inj, add-zero, add-suc, suc-add, zero-add}
+use mathlib.Core.Path.{_≡_, ap, refl, sym}
+use Prim.Native.Nat.{_+_, _<_, _≤_, suc, suc-le-suc, zero, ℕ}
+use lib.ListN.{drop, getElem?, length, set, take}
+use mathlib.Core.List.{List, [], _++_, _∷_}
+use mathlib.Core.Option.{none}
+use native.Mathlib.Nat.{add-suc, add-zero, le-of-suc-le-suc, not-suc-le-zero, suc-add, suc-inj, zero-add, zero-lt-suc}
 use native.Mathlib.Omega.{arith}
-use mathlib.Core.Bool.{Bool, true, false}
-use mathlib.Core.Option.{Option, none, some}
-use mathlib.Core.List.{List, [], _∷_, _++_, map}
-use lib.ListN.{length, set, take, drop, getElem?}
-use Rattle.lists.specs.Places.{At, erase}
+use Rattle.lists.specs.Places.{At, erase, upto}
 
 module _ {A : Type 0} where
   -- ---- a place that holds something, and the length
@@ -161,3 +160,31 @@ module _ {A B : Type 0} where
     | inl p ↦ elim (at-snoc m y hb) [ inl q ↦ inl (p, q) | inr q ↦ absurd (omega (arith, at-lt p)) ]
     | inr p ↦ elim (at-snoc m y hb) [ inl q ↦ absurd (omega (arith, at-lt q)) | inr q ↦ inr (p .1, q .1) ]
   ]
+
+-- two lists, one after the other
+module _ {A : Type 0} where
+  pub at-append : (l m : List A) {i : ℕ} {x : A} → At (l ++ m) i x → At l i x ⊎ ((k : ℕ) × (i ≡ length l + k) × At m k x)
+  at-append [] m {i} h = inr (i, omega arith, h)
+  at-append (y ∷ ys) m {i = zero} h = inl (record { is = h .is })
+  at-append (y ∷ ys) m {i = suc i} {x} h = go (at-append ys m (down h))
+    where
+      go : At ys i x ⊎ ((k : ℕ) × (i ≡ length ys + k) × At m k x) → At (y ∷ ys) (suc i) x ⊎ ((k : ℕ) × (suc i ≡ suc (length ys) + k) × At m k x)
+      go (inl a) = inl (up a)
+      go (inr b) = inr (b .0, omega (arith, b .1), b .2)
+
+  -- a list that holds all that l holds, where l holds it, goes on from l
+  pub goes-on-from : (l m : List A) → ((i : ℕ) (x : A) → At l i x → At m i x) → (more : List A) × (m ≡ l ++ more)
+  goes-on-from [] m h = (m, refl)
+  goes-on-from (y ∷ ys) [] h = absurd (at-nil (h 0 y (record { is = refl })))
+  goes-on-from (y ∷ ys) (z ∷ zs) h =
+      let r = goes-on-from ys zs (λ i x a. down (h (suc i) x (up a))) in
+      let e = at-head (h 0 y (record { is = refl })) in
+      (r .0, λ i. e i ∷ r .1 i)
+
+pub length-upto : (k n : ℕ) → length (upto k n) ≡ n
+length-upto k zero = refl
+length-upto k (suc n) = ap suc (length-upto (suc k) n)
+
+pub upto-append : (k m n : ℕ) → upto k (m + n) ≡ upto k m ++ upto (k + m) n
+upto-append k zero n = rw (zero-add, add-zero)
+upto-append k (suc m) n = rw (suc-add, add-suc, ← suc-add) (ap (λ (l : List ℕ). k ∷ l) (upto-append (suc k) m n))
