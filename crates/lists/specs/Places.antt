@@ -1,7 +1,6 @@
 -- A list by its places: what stands at a place, and a list with one place taken out. Assumes nothing.
 use mathlib.Core.Path.{_≡_}
 use Prim.Native.Nat.{suc, zero, ℕ}
-use borrow.Fn.PlainCycle.{is}
 use lib.ListN.{getElem?}
 use mathlib.Core.List.{List, [], _∷_}
 use mathlib.Core.Option.{some}
@@ -21,3 +20,8 @@ module _ {A : Type 0} where
 abbrev pub upto : ℕ → ℕ → List ℕ
 upto k zero = []
 upto k (suc n) = k ∷ upto (suc k) n
+
+-- f 0, f 1, .. f (n - 1)
+unfoldable pub tab : {A : Type 0} → ℕ → (ℕ → A) → List A
+tab zero f = []
+tab (suc n) f = f 0 ∷ tab n (λ i. f (suc i))

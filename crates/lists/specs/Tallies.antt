@@ -1,6 +1,6 @@
 -- How many elements of a list pass a test. Assumes nothing.
-use Prim.Native.Nat.{ℕ, suc, _+_}
-use mathlib.Core.Bool.{Bool, true, false}
+use Prim.Native.Nat.{_+_, suc, zero, ℕ}
+use mathlib.Core.Bool.{Bool, false, true}
 use mathlib.Core.List.{List, [], _∷_}
 
 abbrev pub bit : Bool → ℕ
@@ -16,3 +16,8 @@ module _ {A : Type 0} where
   abbrev pub tally-from : (ℕ → A → Bool) → ℕ → List A → ℕ
   tally-from p n [] = 0
   tally-from p n (x ∷ xs) = bit (p n x) + tally-from p (suc n) xs
+
+-- how many of the numbers below n pass
+abbrev pub count : ℕ → (ℕ → Bool) → ℕ
+count zero p = 0
+count (suc n) p = count n p + bit (p n)

@@ -1,0 +1,1 @@
+// The tables that a caller lends.
