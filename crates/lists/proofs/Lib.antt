@@ -3,3 +3,4 @@ pub mod Places
 pub mod Tallies
 pub mod Maps
 pub mod Getting
+pub mod Tabs

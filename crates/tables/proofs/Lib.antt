@@ -1,0 +1,4 @@
+-- What joins tables to ledgers: the parts of tables that a ledger lies in (Laid), and how those are read row by row (Rows).
+pub mod Laid
+pub mod Rows
+pub mod Fits
