@@ -51,6 +51,9 @@ module _ {A : Type 0} where
   tab-of [] (suc n) f d h e = absurd (omega arith)
   tab-of (x ∷ l) (suc n) f d h e = λ i. e 0 (omega arith) i ∷ tab-of l n (λ i. f (suc i)) d (omega arith) (λ i q. e (suc i) (omega arith)) i
 
+  pub take-tab : (n m : ℕ) (f : ℕ → A) → n ≤ m → take n (tab m f) ≡ tab n f
+  take-tab n m f h = tab-of (tab m f) n f (f 0) (rw length-tab h) (λ i l. getD-tab m f i (f 0) (omega arith))
+
 module _ {A B : Type 0} (g : A → B) where
   pub map-tab : (n : ℕ) (f : ℕ → A) → map g (tab n f) ≡ tab n (λ i. g (f i))
   unfolding tab

@@ -16,7 +16,7 @@ use Rattle.machine.specs.Tests.{asks, regs, used}
 use Rattle.machine.specs.Types.{Asked, Registration}
 use Rattle.records.specs.declared.BlockTime.{BlockTime}
 
-used-snoc : (l : List Asked) (a : Asked) → used (l ++ a ∷ []) ≡ used l + length (a .text)
+pub used-snoc : (l : List Asked) (a : Asked) → used (l ++ a ∷ []) ≡ used l + length (a .text)
 used-snoc [] a = omega arith
 used-snoc (b ∷ bs) a = omega (arith, used-snoc bs a)
 

@@ -2,3 +2,5 @@
 pub mod Laid
 pub mod Rows
 pub mod Fits
+pub mod Views
+pub mod Relaid

@@ -28,10 +28,10 @@ pub length-asked : (start : ℕ) (all : List Asked) → length (askedRows start 
 length-asked start [] = refl
 length-asked start (a ∷ rest) = ap suc (length-asked (start + length (a .text)) rest)
 
-pub asked-at : (start : ℕ) (all : List Asked) {n : ℕ} {a : Asked} → At all n a → At (askedRows start all) n (askedRow (start + used (take n all)) a)
-asked-at start [] h = absurd (at-nil h)
-asked-at start (b ∷ rest) {n = zero} {a} h = rw (at-head h, add-zero) (record { is = refl })
-asked-at start (b ∷ rest) {n = suc n} {a} h = up (rw add-assoc at (asked-at (start + length (b .text)) rest (down h)))
+pub places : (start : ℕ) (all : List Asked) {n : ℕ} {a : Asked} → At all n a → At (askedRows start all) n (askedRow (start + used (take n all)) a)
+places start [] h = absurd (at-nil h)
+places start (b ∷ rest) {n = zero} {a} h = rw (at-head h, add-zero) (record { is = refl })
+places start (b ∷ rest) {n = suc n} {a} h = up (rw add-assoc at (places (start + length (b .text)) rest (down h)))
 
 pub length-words : (all : List Asked) → length (words all) ≡ used all
 length-words [] = refl
@@ -79,7 +79,7 @@ module _ {t : Tables} {L : Ledger} (s : Sound L) (l : Laid t L) where
   held-row h = row-at key-room zeroKey (l .held-are) (rw (length-map (regs L) key-of) (s .rooms .keys)) (at-map key-of (at-map reg-of h))
 
   pub asked-row : {n : ℕ} {r : Request} → At (L .requests) n r → getD (asked t) n [] ≡ askedRow (used (take n (asks L))) (r .asked)
-  asked-row h = row-at request-room zeroRow (l .asked-are) (rw length-asked (s .rooms .requests)) (rw zero-add at (asked-at 0 (asks L) (at-map asked-of h)))
+  asked-row h = row-at request-room zeroRow (l .asked-are) (rw length-asked (s .rooms .requests)) (rw zero-add at (places 0 (asks L) (at-map asked-of h)))
 
   pub agent-row : {n : ℕ} {r : Request} → At (L .requests) n r → getD (agents t) n [] ≡ r .asked .key
   agent-row h = row-at request-room zeroKey (l .agents-are) (rw (length-map (asks L) agent-of) (s .rooms .requests)) (at-map agent-of (at-map asked-of h))
