@@ -51,6 +51,14 @@ module _ {A : Type 0} where
   tab-of [] (suc n) f d h e = absurd (omega arith)
   tab-of (x ∷ l) (suc n) f d h e = λ i. e 0 (omega arith) i ∷ tab-of l n (λ i. f (suc i)) d (omega arith) (λ i q. e (suc i) (omega arith)) i
 
+  -- a list is what stands at its places
+  pub tab-places : (l : List A) (n : ℕ) (f : ℕ → A) → length l ≡ n → ((i : ℕ) (x : A) → At l i x → x ≡ f i) → l ≡ tab n f
+  unfolding tab
+  tab-places [] zero f e h = refl
+  tab-places [] (suc n) f e h = absurd (omega arith)
+  tab-places (x ∷ l) zero f e h = absurd (omega arith)
+  tab-places (x ∷ l) (suc n) f e h = λ i. h 0 x (record { is = refl }) i ∷ tab-places l n (λ j. f (suc j)) (omega arith) (λ j y a. h (suc j) y (up a)) i
+
   pub take-tab : (n m : ℕ) (f : ℕ → A) → n ≤ m → take n (tab m f) ≡ tab n f
   take-tab n m f h = tab-of (tab m f) n f (f 0) (rw length-tab h) (λ i l. getD-tab m f i (f 0) (omega arith))
 

@@ -4,3 +4,4 @@ pub mod Rows
 pub mod Fits
 pub mod Views
 pub mod Relaid
+pub mod Once
