@@ -3,12 +3,10 @@ use mathlib.Core.Logic.{_≢_}
 use mathlib.Core.Path.{_∙_, _≡_, ap, refl, sym}
 use Prim.Native.Nat.{pred, suc, ℕ}
 use borrow.Author.Tests.{eqb-false, eqb-true, leb-false, ltb-false, not-false}
-use denote.Ref.{now}
-use lib.Ieee.{fits}
 use lib.ListN.{getElem?, length, length-map, length-set, set}
-use mathlib.Core.Bool.{false}
+use mathlib.Core.Bool.{Bool, cond, false, true}
 use mathlib.Core.List.{List, [], _∷_, map}
-use mathlib.Core.Option.{none, some}
+use mathlib.Core.Option.{Option, none, some}
 use native.Mathlib.Omega.{arith}
 use Rattle.lists.proofs.Maps.{at-map, at-unmap, map-erase, map-set-same, map-snoc}
 use Rattle.lists.proofs.Places.{at-lt, at-nil, length-snoc}
@@ -19,11 +17,11 @@ use Rattle.machine.proofs.KeepRoll.{roll-add, roll-ask, roll-revoke}
 use Rattle.machine.proofs.KeepRooms.{rooms-add, rooms-ask, rooms-revoke}
 use Rattle.machine.proofs.Look.{absent, lives, role-true, seen, undecided, unseen}
 use Rattle.machine.proofs.Plans.{gives}
-use Rattle.machine.specs.Machine.{Did, Given, add-to, approve-in, asked-by, decided, left, newly, opened, plan, reject-in, request-in, revoke-in, run, step, with-pending}
-use Rattle.machine.specs.Plan.{Gives, Holds, Outcome, did, refused}
+use Rattle.machine.specs.Examples.{key}
+use Rattle.machine.specs.Machine.{Did, Given, action, add-to, approve-in, asked-by, decided, giving, left, newly, opened, plan, principal, proof, reject-in, request-in, revoke-in, run, step, with-pending}
+use Rattle.machine.specs.Plan.{Gives, Holds, Outcome, Plan, _>>=_, did, done, look, outcome, refused, test}
 use Rattle.machine.specs.Sound.{Judged, Own, Sound, undecided-yet}
 use Rattle.machine.specs.Tests.{Place, live, present, regs, seek}
-use Rattle.machine.specs.Told.{account}
 use Rattle.machine.specs.Types.{Asked, Bytes, Change, Decision, Holder, Ledger, Registration, Request, Undecided, add, approve, reject, request, revoke}
 use Rattle.records.specs.declared.BlockTime.{BlockTime}
 use Rattle.records.specs.declared.Caller.{Caller}
@@ -160,3 +158,33 @@ sound-step L s c = go (step L c) (gives Kept (plan L c) (keep-plan L s c))
 pub sound-run : (L : Ledger) → Sound L → (cs : List Change) → Sound (run L cs)
 sound-run L s [] = s
 sound-run L s (c ∷ cs) = sound-run (left L (step L c)) (sound-step L s c) cs
+
+-- ---- the same of each change's own plan, with the record that it gives
+pub left-giving : {A : Type 0} (L : Ledger) (f : A → Given) (m : Plan (Did A)) → left L (outcome (m >>= giving f)) ≡ left L (outcome m)
+left-giving L f (done d) = refl
+left-giving L f (test e b m) = go b (left-giving L f m)
+  where
+    go : (b : Bool) → left L (outcome (m >>= giving f)) ≡ left L (outcome m) → left L (cond b (refused e) (outcome (m >>= giving f))) ≡ left L (cond b (refused e) (outcome m))
+    go true h = refl
+    go false h = h
+left-giving {A} L f (look {X = X} e o k) = go o (λ x. left-giving L f (k x))
+  where
+    go : (o : Option X) → ((x : X) → left L (outcome (k x >>= giving f)) ≡ left L (outcome (k x))) → left L (outcome (look e o k >>= giving f)) ≡ left L (outcome (look e o k))
+    go none h = refl
+    go (some x) h = h x
+
+module _ (L : Ledger) (s : Sound L) where
+  pub sound-add : (caller : ℕ) (key : Bytes) (account : ℕ) (role : Role) → Sound (left L (outcome (add-to L caller key account role)))
+  sound-add caller key account role = rw (← (left-giving L principal (add-to L caller key account role))) (sound-step L s (add caller key account role))
+
+  pub sound-revoke : (caller : ℕ) (key : Bytes) (now : BlockTime) → Sound (left L (outcome (revoke-in L caller key now)))
+  sound-revoke caller key now = rw (← (left-giving L principal (revoke-in L caller key now))) (sound-step L s (revoke caller key now))
+
+  pub sound-request : (c : Caller) (text : Bytes) (now : BlockTime) → Sound (left L (outcome (request-in L c text now)))
+  sound-request c text now = rw (← (left-giving L action (request-in L c text now))) (sound-step L s (request c text now))
+
+  pub sound-approve : (c : Caller) (n : ℕ) (text : Bytes) (now : BlockTime) → Sound (left L (outcome (approve-in L c n text now)))
+  sound-approve c n text now = rw (← (left-giving L proof (approve-in L c n text now))) (sound-step L s (approve c n text now))
+
+  pub sound-reject : (c : Caller) (n : ℕ) (now : BlockTime) → Sound (left L (outcome (reject-in L c n now)))
+  sound-reject c n now = rw (← (left-giving L action (reject-in L c n now))) (sound-step L s (reject c n now))

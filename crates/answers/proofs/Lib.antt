@@ -1,0 +1,3 @@
+-- How a return of code meets the promise, and what the promise fixes.
+pub mod Doing
+pub mod Determined

@@ -1,0 +1,4 @@
+pub mod Does
+pub mod Answers
+pub mod Calls
+pub mod Texts
