@@ -5,3 +5,6 @@ pub mod Fits
 pub mod Views
 pub mod Relaid
 pub mod Once
+pub mod Indexed
+pub mod Stored
+pub mod Seeks

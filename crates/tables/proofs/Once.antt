@@ -36,7 +36,7 @@ text-of (b ∷ rest) {n = zero} {a} h = ap (λ (x : Asked). take (length (a .tex
 text-of (b ∷ rest) {n = suc n} {a} h =
     ap (take (length (a .text))) (drop-append-add (b .text) (words rest) (used (take n rest))) ∙ text-of rest (down h)
 
-text-fits : (all : List Asked) {n : ℕ} {a : Asked} → At all n a → used (take n all) + length (a .text) ≤ used all
+pub text-fits : (all : List Asked) {n : ℕ} {a : Asked} → At all n a → used (take n all) + length (a .text) ≤ used all
 text-fits [] h = absurd (at-nil h)
 text-fits (b ∷ rest) {n = zero} h = rw (at-head h) (omega arith)
 text-fits (b ∷ rest) {n = suc n} h = omega (arith, text-fits rest (down h))
@@ -53,7 +53,7 @@ part-of-front l k start len h = go l k start h
     go (x ∷ l) (suc k) (suc start) h = go l k start (omega arith)
 
 module _ {t : Tables} (L : Ledger) (s : Sound L) (l : Laid t L) where
-  text-shown : {n : ℕ} {r : Request} → At (L .requests) n r → text-at t n ≡ r .asked .text
+  pub text-shown : {n : ℕ} {r : Request} → At (L .requests) n r → text-at t n ≡ r .asked .text
   text-shown {n} {r} hr =
       let a = at-map asked-of hr in
       let front : take (length (words (asks L))) (t .texts) ≡ words (asks L) =
