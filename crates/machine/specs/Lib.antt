@@ -7,3 +7,4 @@ pub mod Machine
 pub mod Reads
 pub mod Sound
 pub mod Examples
+pub mod Whole
