@@ -8,6 +8,7 @@ use lib.ListN.{length, getD, set, take, drop, replicate, length-map}
 use lib.Seq.{paste, take-length}
 use Rattle.lists.specs.Places.{erase}
 use Rattle.lists.proofs.Getting.{map-set}
+use Rattle.lists.proofs.Maps.{map-erase}
 use Rattle.rows.specs.Zeros.{ZeroFrom}
 use Rattle.rows.specs.Padded.{padded, slid}
 
@@ -135,3 +136,8 @@ module _ {A B : Type 0} (n : ℕ) (z : B) (f : A → B) (xs : List A) where
   set-map i x l h =
       let e = length-map xs f in
       set-padded n z (map f xs) i (f x) (omega arith) (omega arith) ∙ ap (padded n z) (sym (map-set f xs i x))
+
+  pub slid-map : (at : ℕ) → at < length xs → length xs ≤ n → slid at (length xs) z (padded n z (map f xs)) ≡ padded n z (map f (erase xs at))
+  slid-map at l h =
+      let e = length-map xs f in
+      slid-padded n z (map f xs) at (length xs) (sym e) l h ∙ ap (padded n z) (sym (map-erase f xs at))

@@ -1,0 +1,4 @@
+pub mod Within
+pub mod Authentication
+pub mod Adding
+pub mod Revoking

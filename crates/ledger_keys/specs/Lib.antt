@@ -1,0 +1,2 @@
+pub mod Authenticates
+pub mod Registrations

@@ -1,0 +1,2 @@
+-- Laws that the proofs of the tests cite.
+pub mod Grouped
