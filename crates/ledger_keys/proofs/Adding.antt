@@ -21,6 +21,7 @@ use Rattle.lists.proofs.Places.{length-snoc}
 use Rattle.machine.proofs.Keep.{reg-of, sound-add}
 use Rattle.machine.specs.Machine.{Did, add-to, did-add, newly}
 use Rattle.machine.specs.Plan.{Plan}
+use Rattle.machine.specs.Rooms.{key-room, registration-room}
 use Rattle.machine.specs.Tests.{regs, seek}
 use Rattle.machine.specs.Types.{Bytes, Holder, Ledger, Registration}
 use Rattle.records.proofs.Roles.{role-back}
@@ -51,7 +52,7 @@ abbrev pub stores : Tables → ℕ → Bytes → ℕ → ℕ → Tables
 stores t caller key account role = tables (set (set (t .book) (key-count t + 1) (new-row t account role)) 0 (new-head t caller)) (set (t .keys) (key-count t) key) (t .texts)
 
 -- ---- region by region they lay the machine's ledger out
-module _ {t : Tables} {L : Ledger} (st : Stands t L) (key : Bytes) (account : ℕ) (role : Role) (life : made t < 256) (room : key-count t < 64) where
+module _ {t : Tables} {L : Ledger} (st : Stands t L) (key : Bytes) (account : ℕ) (role : Role) (life : made t < registration-room) (room : key-count t < key-room) where
   n : Counts st
   n = counts st
 
@@ -61,20 +62,20 @@ module _ {t : Tables} {L : Ledger} (st : Stands t L) (key : Bytes) (account : �
   abbrev after : Ledger
   after = did-add L key account role .ledger
 
-  holders-after : set (padded 64 zeroRow (map holderRow (L .keys))) (key-count t) (new-row t account (role-number role)) ≡ padded 64 zeroRow (map holderRow (after .keys))
-  holders-after = rw (n .keys-n, n .made-n, n .asked-n) (snoc-map 64 zeroRow holderRow (L .keys) p (omega (arith, n)))
+  holders-after : set (padded key-room zeroRow (map holderRow (L .keys))) (key-count t) (new-row t account (role-number role)) ≡ padded key-room zeroRow (map holderRow (after .keys))
+  holders-after = rw (n .keys-n, n .made-n, n .asked-n) (snoc-map key-room zeroRow holderRow (L .keys) p (omega (arith, n)))
 
-  revoked-after : padded 256 zeroRow (map revokedRow (L .revoked)) ≡ padded 256 zeroRow (map revokedRow (after .revoked))
+  revoked-after : padded registration-room zeroRow (map revokedRow (L .revoked)) ≡ padded registration-room zeroRow (map revokedRow (after .revoked))
   revoked-after =
-      zero-padded 256 zeroRow (map revokedRow (L .revoked)) (omega (arith, n, length-map (L .revoked) revokedRow))
-      ∙ ap (padded 256 zeroRow) (sym (map-snoc revokedRow (L .revoked) none))
+      zero-padded registration-room zeroRow (map revokedRow (L .revoked)) (omega (arith, n, length-map (L .revoked) revokedRow))
+      ∙ ap (padded registration-room zeroRow) (sym (map-snoc revokedRow (L .revoked) none))
 
-  held-after : set (padded 64 zeroKey (map key-of (regs L))) (key-count t) key ≡ padded 64 zeroKey (map key-of (regs after))
+  held-after : set (padded key-room zeroKey (map key-of (regs L))) (key-count t) key ≡ padded key-room zeroKey (map key-of (regs after))
   held-after =
       let m = length-map (L .keys) reg-of in
-      ap (λ (k : ℕ). set (padded 64 zeroKey (map key-of (regs L))) k key) (n .keys-n ∙ sym m)
-      ∙ snoc-map 64 zeroKey key-of (regs L) (p .reg) (omega (arith, n))
-      ∙ ap (λ (rs : List Registration). padded 64 zeroKey (map key-of rs)) (sym (map-snoc reg-of (L .keys) p))
+      ap (λ (k : ℕ). set (padded key-room zeroKey (map key-of (regs L))) k key) (n .keys-n ∙ sym m)
+      ∙ snoc-map key-room zeroKey key-of (regs L) (p .reg) (omega (arith, n))
+      ∙ ap (λ (rs : List Registration). padded key-room zeroKey (map key-of rs)) (sym (map-snoc reg-of (L .keys) p))
 
   head-after : {caller : ℕ} → caller ≡ owner t → new-head t caller ≡ headRow after
   head-after own =
@@ -115,25 +116,25 @@ module _ (t : Tables) (caller : Account) (key : Bytes) (account : Account) (role
       is-new : {L : Ledger} → Stands t L → seek key (L .keys) ≡ none
       is-new st = seek-missing st key (key-count t) refl new
 
-      pub log-full : 256 ≤ made t → Added t (Registered.Refused LogFull)
+      pub log-full : registration-room ≤ made t → Added t (Registered.Refused LogFull)
       unfolding add-call
-      log-full h = part-refused registered planned {t = t} LogFull (λ L st. rw (is-owner st own, is-new st, le-leb 256 (length (L .revoked)) (omega (arith, counts st))))
+      log-full h = part-refused registered planned {t = t} LogFull (λ L st. rw (is-owner st own, is-new st, le-leb registration-room (length (L .revoked)) (omega (arith, counts st))))
 
-      module _ (life : made t < 256) where
-        numbers-left : {L : Ledger} → Stands t L → leb 256 (length (L .revoked)) ≡ false
-        numbers-left {L} st = lt-leb 256 (length (L .revoked)) (omega (arith, counts st))
+      module _ (life : made t < registration-room) where
+        numbers-left : {L : Ledger} → Stands t L → leb registration-room (length (L .revoked)) ≡ false
+        numbers-left {L} st = lt-leb registration-room (length (L .revoked)) (omega (arith, counts st))
 
-        pub keys-full : 64 ≤ key-count t → Added t (Registered.Refused KeysFull)
+        pub keys-full : key-room ≤ key-count t → Added t (Registered.Refused KeysFull)
         unfolding add-call
         keys-full h = part-refused registered planned {t = t} KeysFull (λ L st.
-            rw (is-owner st own, is-new st, numbers-left st, le-leb 64 (length (L .keys)) (omega (arith, counts st))))
+            rw (is-owner st own, is-new st, numbers-left st, le-leb key-room (length (L .keys)) (omega (arith, counts st))))
 
-        pub added : key-count t < 64 → {m : ℕ} → m ≡ role-number role → {r : Principal} → r ≡ principal-in (new-row t (account .0) m)
+        pub added : key-count t < key-room → {m : ℕ} → m ≡ role-number role → {r : Principal} → r ≡ principal-in (new-row t (account .0) m)
             → Added (stores t (caller .0) key (account .0) m) (Registered.Gave r)
         unfolding add-call
         added room e q = part-did registered planned {t = t} (λ L s. sound-add L s (caller .0) key (account .0) role) (λ L st. (
           did-add L key (account .0) role,
-          rw (is-owner st own, is-new st, numbers-left st, lt-leb 64 (length (L .keys)) (omega (arith, counts st))),
+          rw (is-owner st own, is-new st, numbers-left st, lt-leb key-room (length (L .keys)) (omega (arith, counts st))),
           rw (q, e, role-back role, counts st .made-n, counts st .asked-n),
           rw e (added-laid st key (account .0) role life room own),
         ))

@@ -20,6 +20,7 @@ use Rattle.lists.specs.Places.{At}
 use Rattle.machine.proofs.Keep.{reg-of, sound-revoke}
 use Rattle.machine.specs.Machine.{Did, did-revoke, revoke-in}
 use Rattle.machine.specs.Plan.{Plan}
+use Rattle.machine.specs.Rooms.{key-room, registration-room}
 use Rattle.machine.specs.Tests.{asks, regs, used}
 use Rattle.machine.specs.Types.{Bytes, Holder, Ledger, Registration}
 use Rattle.records.proofs.Roles.{role-back}
@@ -61,22 +62,22 @@ module _ {t : Tables} {L : Ledger} (st : Stands t L) {i : ℕ} {p : Holder} (her
   abbrev after : Ledger
   after = did-revoke L (record { at = i; is = p }) time .ledger
 
-  holders-after : slid i (key-count t) zeroRow (holders t) ≡ padded 64 zeroRow (map holderRow (after .keys))
-  holders-after = rw (n .keys-n, l .holders-are) (slid-map 64 zeroRow holderRow (L .keys) i (at-lt here) (n .keys-few))
+  holders-after : slid i (key-count t) zeroRow (holders t) ≡ padded key-room zeroRow (map holderRow (after .keys))
+  holders-after = rw (n .keys-n, l .holders-are) (slid-map key-room zeroRow holderRow (L .keys) i (at-lt here) (n .keys-few))
 
-  held-after : slid i (key-count t) zeroKey (held t) ≡ padded 64 zeroKey (map key-of (regs after))
+  held-after : slid i (key-count t) zeroKey (held t) ≡ padded key-room zeroKey (map key-of (regs after))
   held-after =
       let m = length-map (L .keys) reg-of in
       ap (λ (k : ℕ). slid i k zeroKey (held t)) (n .keys-n ∙ sym m)
       ∙ ap (slid i (length (regs L)) zeroKey) (l .held-are)
-      ∙ slid-map 64 zeroKey key-of (regs L) i (omega (arith, at-lt here)) (omega (arith, n))
-      ∙ ap (λ (rs : List Registration). padded 64 zeroKey (map key-of rs)) (sym (map-erase reg-of (L .keys) i))
+      ∙ slid-map key-room zeroKey key-of (regs L) i (omega (arith, at-lt here)) (omega (arith, n))
+      ∙ ap (λ (rs : List Registration). padded key-room zeroKey (map key-of rs)) (sym (map-erase reg-of (L .keys) i))
 
   known : p .reg .number < length (L .revoked)
   known = at-lt (st .sound .roll .in-force (at-map reg-of here))
 
-  revoked-after : set (padded 256 zeroRow (map revokedRow (L .revoked))) (p .reg .number) (revokedRow (some time)) ≡ padded 256 zeroRow (map revokedRow (after .revoked))
-  revoked-after = set-map 256 zeroRow revokedRow (L .revoked) (p .reg .number) (some time) known (n .made-few)
+  revoked-after : set (padded registration-room zeroRow (map revokedRow (L .revoked))) (p .reg .number) (revokedRow (some time)) ≡ padded registration-room zeroRow (map revokedRow (after .revoked))
+  revoked-after = set-map registration-room zeroRow revokedRow (L .revoked) (p .reg .number) (some time) known (n .made-few)
 
   head-after : set (headRow L) 1 (key-count t - 1) ≡ headRow after
   head-after =
@@ -89,11 +90,11 @@ module _ {t : Tables} {L : Ledger} (st : Stands t L) {i : ℕ} {p : Holder} (her
       let hr = er ∙ holders-after in
       let hk = ek ∙ held-after in
       let number : cell (i + 1) 2 (t .book) ≡ p .reg .number = ap (λ (r : List ℕ). getD r 2 0) (holder-index st here (i + 1) (omega arith)) in
-      let r = region-put (book-holds st) 1 (omega arith) 1 64 refl refl rows (ap length hr ∙ length-padded 64 zeroRow (map holderRow (after .keys))) in
+      let r = region-put (book-holds st) 1 (omega arith) 1 64 refl refl rows (ap length hr ∙ length-padded key-room zeroRow (map holderRow (after .keys))) in
       let s = region-store r 4 (omega arith) 577 256 refl refl (cell (i + 1) 2 (t .book) + 577) (p .reg .number) (revokedRow (some time)) (omega arith) (omega (arith, known, n)) in
       let top : getD (struck t i time rows) 0 [] ≡ headRow L = ap (λ (b : List (List ℕ)). getD b 0 []) (s .is) in
       let b = region-store s 0 (omega arith) 0 1 refl refl 0 0 (set (getD (struck t i time rows) 0 []) 1 (key-count t - 1)) refl (omega arith) in
-      let k = region-put (keys-holds st) 0 (omega arith) 0 64 refl refl ks (ap length hk ∙ length-padded 64 zeroKey (map key-of (regs after))) in
+      let k = region-put (keys-holds st) 0 (omega arith) 0 64 refl refl ks (ap length hk ∙ length-padded key-room zeroKey (map key-of (regs after))) in
       let h = ap (λ (x : List ℕ). set x 1 (key-count t - 1)) top ∙ head-after in
       stored after
       b (λ j. (h j ∷ []) ∷ hr j ∷ getD (bookOf L) 2 [] ∷ getD (bookOf L) 3 [] ∷ revoked-after j ∷ getD (bookOf L) 5 [] ∷ [])

@@ -10,6 +10,7 @@ use native.Mathlib.Omega.{arith}
 use Rattle.lists.proofs.Maps.{at-map}
 use Rattle.lists.proofs.Places.{at-below, at-lt}
 use Rattle.machine.proofs.Keep.{reg-of}
+use Rattle.machine.specs.Rooms.{key-room, pending-limit, registration-room}
 use Rattle.machine.specs.Tests.{asks, regs, used}
 use Rattle.machine.specs.Types.{Ledger}
 use Rattle.rows.proofs.Padded.{length-padded}
@@ -29,8 +30,8 @@ module _ {t : Tables} {L : Ledger} where
     pub asked-n : request-count t ≡ length (L .requests)
     pub logged-n : log-count t ≡ length (L .log)
     pub used-n : text-used t ≡ used (asks L)
-    pub keys-few : length (L .keys) ≤ 64
-    pub made-few : length (L .revoked) ≤ 256
+    pub keys-few : length (L .keys) ≤ key-room
+    pub made-few : length (L .revoked) ≤ registration-room
 
   pub counts : (st : Stands t L) → Counts st
   counts st =
@@ -58,7 +59,7 @@ module _ {t : Tables} {L : Ledger} where
 pub record Within (t : Tables) : Type 0 where
   pub book-long : length (t .book) ≡ 1089
   pub keys-long : length (t .keys) ≡ 576
-  pub keys-fit : key-count t ≤ 64
+  pub keys-fit : key-count t ≤ key-room
 
 pub within : {t : Tables} → Standing t → Within t
 within w =
@@ -70,8 +71,8 @@ within w =
 pub record Placed (t : Tables) (i : ℕ) : Type 0 where
   pub within-rooms : Within t
   pub below : i < key-count t
-  pub number-fits : cell (i + 1) 2 (t .book) < 256
-  pub pending-fits : cell (i + 1) 4 (t .book) ≤ 16
+  pub number-fits : cell (i + 1) 2 (t .book) < registration-room
+  pub pending-fits : cell (i + 1) 4 (t .book) ≤ pending-limit
   pub rows-part : key-count t ≤ length (holders t)
   pub keys-part : key-count t ≤ length (held t)
 
@@ -87,6 +88,6 @@ placed-at {t} w i h =
       below = h;
       number-fits = rw row (omega (arith, at-lt (st .sound .roll .in-force (at-map reg-of here))));
       pending-fits = rw row (st .sound .counted .few here);
-      rows-part = rw (l .holders-are, length-padded 64 zeroRow (map holderRow (w .ledger .keys))) (within w .keys-fit);
-      keys-part = rw (l .held-are, length-padded 64 zeroKey (map key-of (regs (w .ledger)))) (within w .keys-fit);
+      rows-part = rw (l .holders-are, length-padded key-room zeroRow (map holderRow (w .ledger .keys))) (within w .keys-fit);
+      keys-part = rw (l .held-are, length-padded key-room zeroKey (map key-of (regs (w .ledger)))) (within w .keys-fit);
     }

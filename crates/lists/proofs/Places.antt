@@ -139,6 +139,11 @@ module _ {A : Type 0} where
   at-none (y ∷ ys) zero h = let z : _≡_ {A = ℕ} 0 1 = cc in absurd (omega arith)
   at-none (y ∷ ys) (suc i) h = suc-le-suc (at-none ys i h)
 
+  pub past-end : (l : List A) (i : ℕ) → length l ≤ i → getElem? l i ≡ none
+  past-end [] i h = refl
+  past-end (y ∷ ys) zero h = absurd (not-suc-le-zero h)
+  past-end (y ∷ ys) (suc i) h = past-end ys i (le-of-suc-le-suc h)
+
   pub getElem?-old : (l m : List A) (i : ℕ) → i < length l → getElem? (l ++ m) i ≡ getElem? l i
   getElem?-old [] m i h = absurd (not-suc-le-zero h)
   getElem?-old (x ∷ xs) m zero h = refl

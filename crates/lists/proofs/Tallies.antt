@@ -36,6 +36,11 @@ module _ {A : Type 0} where
   tally-lt {l = z ∷ zs} {i = zero} p h e = omega (arith, tally-le p zs, ap bit (ap p (at-head h) ∙ e))
   tally-lt {l = z ∷ zs} {i = suc i} p h e = omega (arith, tally-lt p (down h) e, bit-le (p z))
 
+  pub tally-some : {l : List A} {i : ℕ} {x : A} (p : A → Bool) → At l i x → p x ≡ true → 0 < tally p l
+  tally-some {l = []} p h e = absurd (at-nil h)
+  tally-some {l = z ∷ zs} {i = zero} p h e = omega (arith, ap bit (ap p (at-head h) ∙ e))
+  tally-some {l = z ∷ zs} {i = suc i} p h e = omega (arith, tally-some p (down h) e)
+
   pub tally-none : (p : A → Bool) (l : List A) → ((i : ℕ) (x : A) → At l i x → p x ≡ false) → tally p l ≡ 0
   tally-none p [] h = refl
   tally-none p (z ∷ zs) h =

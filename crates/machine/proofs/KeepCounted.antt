@@ -18,7 +18,7 @@ use Rattle.machine.specs.Types.{Decision, Holder, Registration, Request,
 use Rattle.records.specs.declared.Role.the-variants.{Agent}
 
 -- one request's part in the count of registration g
-waits-same : (g : ℕ) (r : Request) → r .decision ≡ Undecided → r .asked .number ≡ g → waits g r ≡ true
+pub waits-same : (g : ℕ) (r : Request) → r .decision ≡ Undecided → r .asked .number ≡ g → waits g r ≡ true
 waits-same g r e k = ap (λ (d : Decision). undecided-yet d && eqb (r .asked .number) g) e ∙ eq-eqb (r .asked .number) g k
 
 waits-other : (g : ℕ) (r : Request) → r .asked .number ≢ g → waits g r ≡ false

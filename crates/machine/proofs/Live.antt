@@ -1,17 +1,20 @@
--- In a sound ledger a request is live exactly if its registration is not over. Assumes nothing.
+-- In a sound ledger a request is live exactly if its registration is not over; and while it is undecided, its key's pending count is not 0. Assumes nothing.
 use mathlib.Core.Path.{_∙_, _≡_, ap, refl, sym}
-use Prim.Native.Nat.{_≤_, one, ℕ}
+use Prim.Native.Nat.{_<_, _≤_, one, ℕ}
 use lib.ListN.{getElem?}
 use mathlib.Core.Bool.{Bool, false, not, true}
 use mathlib.Core.Option.{Option, none, some}
+use native.Mathlib.Omega.{arith}
 use Rattle.lists.proofs.Maps.{at-map, at-unmap}
 use Rattle.lists.proofs.Places.{at-below, at-one}
+use Rattle.lists.proofs.Tallies.{tally-some}
 use Rattle.lists.specs.Places.{At}
-use Rattle.machine.proofs.Keep.{reg-of}
+use Rattle.machine.proofs.Keep.{asked-of, reg-of}
+use Rattle.machine.proofs.KeepCounted.{waits-same}
 use Rattle.machine.proofs.Look.{Lives, lives, lives-back, seen, unseen}
-use Rattle.machine.specs.Sound.{Own, Sound}
+use Rattle.machine.specs.Sound.{Own, Sound, waits}
 use Rattle.machine.specs.Tests.{Place, asks, live, live-under, present, regs, seek}
-use Rattle.machine.specs.Types.{Asked, Ledger, Registration}
+use Rattle.machine.specs.Types.{Asked, Ledger, Registration, Request, Undecided}
 use Rattle.records.specs.declared.BlockTime.{BlockTime}
 
 -- the time of the end, or none: is it over?
@@ -48,3 +51,11 @@ live-or-over L s {n} {a} ha = let b = at-below (L .revoked) (a .number) (s .roll
         let number = s .roll .alive holder ha (sym (w .key)) .0 (l .1 .since) in
         let z = at-one ho (s .roll .in-force holder) number in
         cc
+
+-- the key that an undecided request is live under has it among its Pending
+pub some-pending : (L : Ledger) → Sound L → {n : ℕ} {r : Request} {f : Place} → At (L .requests) n r → r .decision ≡ Undecided → live L n (r .asked) ≡ some f → 0 < f .is .pending
+some-pending L s {n} {r} {f} hr fresh e =
+    let l = lives n (r .asked) (seek (r .asked .key) (L .keys)) e in
+    let w = seen (r .asked .key) (L .keys) (l .0) in
+    let number = s .roll .alive (at-map reg-of (w .here)) (at-map asked-of hr) (sym (w .key)) .0 (l .1 .since) in
+    omega (arith, s .counted .pending (w .here), tally-some (waits (f .is .reg .number)) hr (waits-same (f .is .reg .number) r fresh number))

@@ -109,3 +109,13 @@ pub lives-back : (n : ℕ) (a : Asked) (f : Place) → Lives n a (f .is .reg) �
 lives-back n a f l =
     let p = f .is .reg in
     rw (ap (λ (r : Role). same-role r Agent) (l .agent), eq-eqb (p .account) (a .account) (l .account), le-leb (p .active) n (l .since))
+
+pub lives-not : (n : ℕ) (a : Asked) (f : Place) → (Lives n a (f .is .reg) → ⊥) → live-under n a (some f) ≡ none
+lives-not n a f h = go (live-under n a (some f)) refl
+  where
+    go : (o : Option Place) → live-under n a (some f) ≡ o → o ≡ none
+    go none e = refl
+    go (some g) e =
+        let w = lives n a (some f) e in
+        let same : f ≡ g = let q = w .0 in cc in
+        absurd (h (rw same (w .1)))

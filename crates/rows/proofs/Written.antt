@@ -30,7 +30,7 @@ module _ {A : Type 0} where
   over-next (y ∷ d) (x ∷ xs) zero e h l = refl
   over-next (y ∷ d) (x ∷ xs) (suc j) e h l = ap (λ (r : List A). x ∷ r) (over-next d xs j e (omega arith) (omega arith))
 
-  over-more : (d t xs : List A) (j : ℕ) (a e : A) → j < length d → j < length xs → a ≡ getD xs j e → t ≡ over d j xs → set t j a ≡ over d (j + 1) xs
+  pub over-more : (d t xs : List A) (j : ℕ) (a e : A) → j < length d → j < length xs → a ≡ getD xs j e → t ≡ over d j xs → set t j a ≡ over d (j + 1) xs
   over-more d t xs j a e h l p q = rw (q, p, add-one) (over-next d xs j e h l)
 
   -- ---- every entry is written with z

@@ -8,3 +8,4 @@ pub mod Once
 pub mod Indexed
 pub mod Stored
 pub mod Seeks
+pub mod Within

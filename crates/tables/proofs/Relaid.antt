@@ -28,7 +28,7 @@ use Rattle.tables.specs.Parts.{agents, approvers, asked, cell, decided, 
 use Rattle.tables.specs.Tables.{Stands, Tables, agent-of, askedRows, decidedKey, decidedRow, decision-of, decisions, headRow, holderRow, key-of, logRow, revokedRow, words}
 use Rattle.tables.specs.View.{asked-at, decision-at, holder-at, registration-at, request-at, revocation-at, slot-at, time-at, view}
 
-words-snoc : (l : List Asked) (a : Asked) → words (l ++ a ∷ []) ≡ words l ++ a .text
+pub words-snoc : (l : List Asked) (a : Asked) → words (l ++ a ∷ []) ≡ words l ++ a .text
 words-snoc [] a = append-nil (a .text)
 words-snoc (b ∷ rest) a = ap (λ (w : List ℕ). b .text ++ w) (words-snoc rest a) ∙ sym (append-assoc (b .text) (words rest) (a .text))
 

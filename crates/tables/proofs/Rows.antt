@@ -2,7 +2,7 @@
 use mathlib.Core.Path.{_∙_, _≡_, ap, refl}
 use Prim.Native.Nat.{_+_, _≤_, suc, zero, ℕ}
 use lib.ListN.{getD, length, length-append, length-map, take}
-use mathlib.Core.List.{List, [], _∷_, map}
+use mathlib.Core.List.{List, [], _++_, _∷_, map}
 use mathlib.Core.Option.{Option}
 use native.Mathlib.Nat.{add-assoc, add-zero, zero-add}
 use Rattle.lists.proofs.Getting.{getD-of-at}
@@ -32,6 +32,12 @@ pub places : (start : ℕ) (all : List Asked) {n : ℕ} {a : Asked} → At all n
 places start [] h = absurd (at-nil h)
 places start (b ∷ rest) {n = zero} {a} h = rw (at-head h, add-zero) (record { is = refl })
 places start (b ∷ rest) {n = suc n} {a} h = up (rw add-assoc at (places (start + length (b .text)) rest (down h)))
+
+-- one more starts where the texts before it end
+pub asked-snoc : (start : ℕ) (all : List Asked) (a : Asked) → askedRows start (all ++ a ∷ []) ≡ askedRows start all ++ askedRow (start + used all) a ∷ []
+asked-snoc start [] a = rw add-zero
+asked-snoc start (b ∷ rest) a =
+    ap (λ (rows : List (List ℕ)). askedRow start b ∷ rows) (asked-snoc (start + length (b .text)) rest a ∙ rw add-assoc)
 
 pub length-words : (all : List Asked) → length (words all) ≡ used all
 length-words [] = refl

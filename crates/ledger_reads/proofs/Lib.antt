@@ -1,0 +1,6 @@
+-- Laws of the reads: what the cells that code takes from the tables say of the ledger in them.
+pub mod Decided
+pub mod Requested
+pub mod Ended
+pub mod Slots
+pub mod Pages
