@@ -1,2 +1,3 @@
 -- Laws that the proofs of the public functions cite.
 pub mod Opened
+pub mod Texts

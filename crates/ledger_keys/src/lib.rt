@@ -6,6 +6,7 @@ ghost use Rattle.ledger_keys.specs.Authenticates.{Authenticates};
 ghost use Rattle.ledger_keys.specs.Registrations.{principal-in};
 ghost use Rattle.answers.specs.Calls.{add-call, revoke-call};
 ghost use Rattle.answers.specs.Does.{Part};
+ghost use Rattle.machine.specs.Rooms.{pending-limit};
 ghost use Rattle.tables.specs.Tables.{Standing, tables};
 use answers::Registered;
 use ids::Account;
@@ -57,7 +58,7 @@ pub fn authenticate(
 
 // The registration that a row of the book tells.
 fn principal_in(row: [u64; 6]) -> Principal
-    requires { ⌜ getD row 4 0 ≤ 16 ⌝ }
+    requires { ⌜ getD row 4 0 ≤ pending-limit ⌝ }
     ensures { λ r. ⌜ r ≡ principal-in row ⌝ }
 {
     Principal {

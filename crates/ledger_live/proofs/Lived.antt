@@ -5,7 +5,7 @@ use lib.ListN.{getD}
 use mathlib.Core.List.{List, []}
 use mathlib.Core.Option.{none}
 use native.Mathlib.Omega.{arith}
-use Rattle.ledger_live.specs.Told.{Told}
+use Rattle.ledger_live.specs.Lives.{LivesAs}
 use Rattle.ledger_live.specs.declared.Live.{Live}
 use Rattle.lists.specs.Places.{At}
 use Rattle.machine.proofs.Look.{Lives, lives-back, lives-not}
@@ -57,7 +57,7 @@ module _ {t : Tables} {L : Ledger} (st : Stands t L) {n : ℕ} {r : Request} (hr
     registered-since h = dead (λ l. omega (arith, cell-is 3, l .since))
 
     -- and all hold
-    pub alive : cell (i + 1) 1 (t .book) ≡ role-number Agent → cell (i + 1) 0 (t .book) ≡ cell (n + 65) 0 (t .book) → cell (i + 1) 3 (t .book) ≤ n → Told L (live L n (r .asked)) (Live.At i)
+    pub alive : cell (i + 1) 1 (t .book) ≡ role-number Agent → cell (i + 1) 0 (t .book) ≡ cell (n + 65) 0 (t .book) → cell (i + 1) 3 (t .book) ≤ n → LivesAs L (live L n (r .asked)) (Live.At i)
     alive role account since =
         let l : Lives n (r .asked) (found .holder .reg) =
         record { agent = same-by-number _ _ (sym (cell-is 1) ∙ role); account = sym (cell-is 0) ∙ account ∙ account-is; since = omega (arith, cell-is 3) } in

@@ -2,7 +2,7 @@
 ghost use Prim.Native.Nat.{_<_};
 ghost use Rattle.tables.specs.Tables.{Standing, tables};
 ghost use Rattle.tables.specs.Parts.{request-count};
-ghost use Rattle.ledger_live.specs.Told.{LiveTold};
+ghost use Rattle.ledger_live.specs.Lives.{Lives};
 use records::Role;
 use records::number_of_role;
 use rows::Found;
@@ -16,9 +16,9 @@ pub enum Live {
 
 // The source's `live_agent_registration`, of request n: its key is registered, as an Agent's, for its account, since before it.
 pub fn live_agent_registration(book: &[[u64; 6]], keys: &[[u8; 32]], texts: &[u8], n: usize) -> Live
-    requires { ⌜ Standing (tables (now book) (now keys) (now texts)) ⌝
-        ∗ ⌜ n < request-count (tables (now book) (now keys) (now texts)) ⌝ }
-    ensures { λ r. ⌜ LiveTold (tables (now (book .entry)) (now (keys .entry)) (now (texts .entry))) n r ⌝ }
+    requires { ⌜ Standing (tables (now book) (now keys) (now texts)) ⌝ }
+    requires { ⌜ n < request-count (tables (now book) (now keys) (now texts)) ⌝ }
+    ensures { λ r. ⌜ Lives (tables (now (book .entry)) (now (keys .entry)) (now (texts .entry))) n r ⌝ }
 {
     let key = keys[n + 64];
     let Found::At(i) = find(keys, book[0][1] as usize, key) else {

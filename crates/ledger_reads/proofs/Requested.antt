@@ -6,7 +6,7 @@ use mathlib.Core.List.{List, []}
 use mathlib.Core.Option.{Option, none, some}
 use native.Mathlib.Omega.{arith}
 use Rattle.answers.specs.Texts.{extent, extent-by}
-use Rattle.ledger_live.specs.Told.{LiveTold, Told}
+use Rattle.ledger_live.specs.Lives.{Lives, LivesAs}
 use Rattle.ledger_live.specs.declared.Live.{Live}
 use Rattle.ledger_reads.proofs.Decided.{approved-is, approved-marked, mark-small, rejected-marked, status-by-mark, status-marked, unapproved}
 use Rattle.ledger_reads.specs.Read.{ApprovedAt}
@@ -36,7 +36,7 @@ abbrev pub waiting : Live → RequestStatus
 waiting (Live.At i) = Status.Pending
 waiting Live.Nothing = Status.Void
 
-told-status : (L : Ledger) (o : Option Place) (l : Live) → Told L o l → status-marked o 0 ≡ waiting l
+told-status : (L : Ledger) (o : Option Place) (l : Live) → LivesAs L o l → status-marked o 0 ≡ waiting l
 told-status L o (Live.At i) w = ap (λ (o : Option Place). status-marked o 0) (w .2)
 told-status L o Live.Nothing w = ap (λ (o : Option Place). status-marked o 0) w
 
@@ -99,8 +99,8 @@ module _ {t : Tables} {L : Ledger} (st : Stands t L) {n : ℕ} where
     pub status-rejected : cell (n + 321) 0 (t .book) ≡ 2 → status L n ≡ did Status.Rejected
     status-rejected e = status-at 2 e ∙ ap did (rejected-marked (live L n (here .0 .asked)))
 
-    pub status-waiting : (cell (n + 321) 0 (t .book) ≡ 1 → ⊥) → (cell (n + 321) 0 (t .book) ≡ 2 → ⊥) → (l : Live) → LiveTold t n l → status L n ≡ did (waiting l)
-    status-waiting a b l w = status-at 0 (omega (arith, mark-is, mark-small (here .0 .decision))) ∙ ap did (told-status L _ l (w .told st (here .1)))
+    pub status-waiting : (cell (n + 321) 0 (t .book) ≡ 1 → ⊥) → (cell (n + 321) 0 (t .book) ≡ 2 → ⊥) → (l : Live) → Lives t n l → status L n ≡ did (waiting l)
+    status-waiting a b l w = status-at 0 (omega (arith, mark-is, mark-small (here .0 .decision))) ∙ ap did (told-status L _ l (w .lives st (here .1)))
 
     -- its proof
     pub not-approved : (cell (n + 321) 0 (t .book) ≡ 1 → ⊥) → approval L n ≡ none

@@ -4,8 +4,8 @@ use mathlib.Core.Logic.{_≢_}
 use Prim.Native.Nat.{ℕ, _≤_, _<_}
 use native.Mathlib.Omega.{arith}
 use lib.ListN.{length, getD}
-use mathlib.Core.List.{List, []}
-use Rattle.rows.proofs.Cells.{six, five, three, one}
+use mathlib.Core.List.{List}
+use Rattle.rows.proofs.Cells.{six, five, three}
 use Rattle.rows.specs.Zeros.{zeroRow, zeroKey}
 use Rattle.tables.specs.Fit.{HolderFits, RevokedFits, DecidedFits}
 

@@ -1,5 +1,5 @@
 // Whether one row of the book has the form of its region: by value, each left at the first cell that tells.
-ghost use Prim.Native.Nat.{_≤_, _<_};
+ghost use Prim.Native.Nat.{_≤_};
 ghost use lib.ListN.{length};
 ghost use Rattle.ids.specs.Decides.{Decides};
 ghost use Rattle.tables.specs.Fit.{HeadFits, HolderFits, RevokedFits, AskedFits, DecidedFits, SlotFits};

@@ -1,13 +1,13 @@
 -- Noting, key by key, where each registration is in force; and what the notes then say. For `registrations`. Assumes nothing.
 use mathlib.Core.Logic.{_≢_, ⊎-elim}
-use mathlib.Core.Path.{_≡_, refl, sym, ap, _∙_}
+use mathlib.Core.Path.{_≡_, sym, ap, _∙_}
 use Prim.Native.Nat.{ℕ, _+_, _-_, _≤_, _<_}
 use native.Mathlib.Omega.{arith}
 use borrow.Author.Count.{below-more, below-none}
 use borrow.Author.Tests.{not-true, not-false}
-use lib.ListN.{getD, length, length-set, length-replicate, getD-replicate, replicate, set}
+use lib.ListN.{getD, length-set, length-replicate, getD-replicate, replicate, set}
 use lib.Seq.{getD-set-other, getD-set-same}
-use mathlib.Core.Bool.{Bool, false, false≢true, not, true}
+use mathlib.Core.Bool.{false, false≢true, not, true}
 use mathlib.Core.List.{List}
 use Rattle.ids.proofs.Flags.{fails, holds}
 use Rattle.tables.specs.Fit.{Registered}

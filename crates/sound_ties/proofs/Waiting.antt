@@ -5,10 +5,9 @@ use Prim.Native.Nat.{ℕ, _+_, _≤_, _<_}
 use native.Mathlib.Omega.{arith}
 use borrow.Author.Tests.{eq-eqb, ne-eqb}
 use lib.Dec.{eqb}
-use lib.ListN.{getD, length, length-set, length-replicate, getD-replicate, replicate, set}
+use lib.ListN.{getD, length-set, length-replicate, getD-replicate, replicate, set}
 use mathlib.Core.Bool.{_&&_, Bool, false, true}
 use mathlib.Core.List.{List}
-use Rattle.tables.specs.Fit.{waiting}
 use Rattle.tables.specs.Parts.{cell}
 use Rattle.sound_ties.specs.Places.{Counts}
 use Rattle.sound_ties.proofs.Stored.{after-store}

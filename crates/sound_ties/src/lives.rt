@@ -1,12 +1,9 @@
 // Whether each request and the registered keys agree on whose it is: a search over the keys for each request whose registration is in force no more.
-ghost use mathlib.Core.Path.{_≡_};
-ghost use mathlib.Core.List.{[]};
-ghost use Prim.Native.Nat.{_≤_, _<_};
-ghost use lib.ListN.{length, getD};
+ghost use Prim.Native.Nat.{_<_};
+ghost use lib.ListN.{length};
 ghost use Rattle.ids.specs.Decides.{Decides};
 ghost use Rattle.tables.specs.Fit.{OwnFits, Lived};
-ghost use Rattle.sound_ties.specs.Places.{Numbered, Places, Within};
-ghost use Rattle.sound_ties.specs.Places.{Younger};
+ghost use Rattle.sound_ties.specs.Places.{Numbered, Places, Within, Younger};
 use rows::compare::is_key_at;
 
 // Request n, whose registration is key i's: made under that key, by its account, as an Agent's, since the key was added.
@@ -44,7 +41,7 @@ pub fn younger(
     requires { ⌜ (i < length (now holders)) × (i < length (now held)) × (n < length (now agents)) ⌝ }
     ensures { λ r. ⌜ Decides r (Younger (now (holders .entry)) (now (held .entry)) (now (agents .entry)) n i) ⌝ }
 {
-    if holders[i][3] > n as u64 {
+    if (n as u64) < holders[i][3] {
         return true;
     }
     !is_key_at(held, i, &agents[n])

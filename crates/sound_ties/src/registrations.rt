@@ -3,7 +3,7 @@ ghost use Prim.Native.Nat.{_≤_};
 ghost use lib.ListN.{length};
 ghost use Rattle.ids.specs.Decides.{Decides};
 ghost use Rattle.tables.specs.Fit.{Registered};
-ghost use Rattle.sound_ties.specs.Places.{Numbered, InForce, EachPlaced, Places, Noted};
+ghost use Rattle.sound_ties.specs.Places.{Numbered, InForce, EachPlaced, Noted};
 
 // By registration number: 0 where none of the keys has it, and i + 1 where key i has.
 pub struct Placed {

@@ -8,6 +8,7 @@ use Rattle.tables.specs.Fit.{AllAskedFit, AllDecidedFit, AllRevokedFit, HeadFit
 use Rattle.tables.specs.Parts.{agents, approvers, asked, decided, held, holders, key-count, log, log-count, made, request-count, revoked, text-used}
 use Rattle.tables.specs.Tables.{Tables, tables}
 
+-- tables of which only the book and the keys are looked at
 abbrev pub lent : List (List ℕ) → List (List ℕ) → Tables
 lent book keys = tables book keys []
 
@@ -17,6 +18,7 @@ pub record Ready (book keys : List (List ℕ)) : Type 0 where
   pub keys-long : length keys ≡ 576
   pub head : HeadFits (getD book 0 [])
 
+-- each row by itself, and the log with the approvals
 pub record RowsFit (book keys : List (List ℕ)) : Type 0 where
   pub holders-fit : HoldersFit (key-count (lent book keys)) (made (lent book keys)) (request-count (lent book keys)) (holders (lent book keys))
   pub revoked-fit : AllRevokedFit (made (lent book keys)) (revoked (lent book keys))
@@ -24,6 +26,7 @@ pub record RowsFit (book keys : List (List ℕ)) : Type 0 where
   pub decided-fit : AllDecidedFit (request-count (lent book keys)) (made (lent book keys)) (asked (lent book keys)) (decided (lent book keys)) (approvers (lent book keys))
   pub log-fits : LogFits (log-count (lent book keys)) (request-count (lent book keys)) (log (lent book keys)) (decided (lent book keys))
 
+-- what rows say of one another
 pub record TiesFit (book keys : List (List ℕ)) : Type 0 where
   pub distinct : Distinct (key-count (lent book keys)) (held (lent book keys))
   pub registered : Registered (key-count (lent book keys)) (made (lent book keys)) (holders (lent book keys)) (revoked (lent book keys))

@@ -32,7 +32,7 @@ enum-told : tie.Need-enum-told
 enum-told c = search needs
 
 returns : tie.Need-returns
-returns c = record { told = λ st hr. unregistered st hr (rw (c .enum-told .given .1) at (c .before .before .find .ensures)) }
+returns c = record { lives = λ st hr. unregistered st hr (rw (c .enum-told .given .1) at (c .before .before .find .ensures)) }
 
 add-holder : tie.Need-add-holder
 add-holder c = let w = fits (c .before .before .before .before .before .before .before .pre .0 .stands) in let h = rw (c .before .i .given .1) at (c .before .before .before .find .ensures) in omega (arith, h .0)
@@ -50,7 +50,7 @@ number-of-role-requires : tie.Need-number-of-role-requires
 number-of-role-requires c κs = search needs
 
 returns-2 : tie.Need-returns-2
-returns-2 c = record { told = λ st hr. not-agent st hr _ (rw (c .before .before .before .before .i .given .1) at (c .before .before .before .before .before .before .find .ensures)) (λ e. c .if1 .taken (e ∙ sym (c .before .number-of-role .ensures))) }
+returns-2 c = record { lives = λ st hr. not-agent st hr _ (rw (c .before .before .before .before .i .given .1) at (c .before .before .before .before .before .before .find .ensures)) (λ e. c .if1 .taken (e ∙ sym (c .before .number-of-role .ensures))) }
 
 array-read-if2 : tie.Need-array-read-if2
 array-read-if2 c = search needs
@@ -68,16 +68,16 @@ index-2-if2 : tie.Need-index-2-if2
 index-2-if2 c = search needs
 
 returns-3 : tie.Need-returns-3
-returns-3 c = record { told = λ st hr. other-account st hr _ (rw (c .before .before .before .before .before .before .i .given .1) at (c .before .before .before .before .before .before .before .before .find .ensures)) (c .if2 .taken) }
+returns-3 c = record { lives = λ st hr. other-account st hr _ (rw (c .before .before .before .before .before .before .i .given .1) at (c .before .before .before .before .before .before .before .before .find .ensures)) (c .if2 .taken) }
 
 array-read-if3 : tie.Need-array-read-if3
 array-read-if3 c = search needs
 
 returns-4 : tie.Need-returns-4
-returns-4 c = record { told = λ st hr. registered-since st hr _ (rw (c .before .before .before .before .before .before .before .i .given .1) at (c .before .before .before .before .before .before .before .before .before .find .ensures)) (c .if3 .taken) }
+returns-4 c = record { lives = λ st hr. registered-since st hr _ (rw (c .before .before .before .before .before .before .before .i .given .1) at (c .before .before .before .before .before .before .before .before .before .find .ensures)) (c .if3 .taken) }
 
 returns-5 : tie.Need-returns-5
-returns-5 c = record { told = λ st hr. alive st hr _ (rw (c .before .before .before .before .before .before .before .i .given .1) at (c .before .before .before .before .before .before .before .before .before .find .ensures)) (c .before .before .before .if1 .left ∙ c .before .before .before .before .number-of-role .ensures) (c .before .if2 .left) (c .if3 .left) }
+returns-5 c = record { lives = λ st hr. alive st hr _ (rw (c .before .before .before .before .before .before .before .i .given .1) at (c .before .before .before .before .before .before .before .before .before .find .ensures)) (c .before .before .before .if1 .left ∙ c .before .before .before .before .number-of-role .ensures) (c .before .if2 .left) (c .if3 .left) }
 
 pub live-agent-registration-spec : {M : Type 1} → statement M
 live-agent-registration-spec =

@@ -1,12 +1,31 @@
 -- `ledger_requests::ask::request_sound` meets its contract: each answer by the tests before it. Assumes nothing.
+use Prim.Native.Nat.{_<_}
 use native.Mathlib.Omega.{arith}
+use Rattle.ledger_keys.specs.Authenticates.{Authenticates}
 use Rattle.ledger_requests.proofs.Asking.{asks-for, empty, full, not-authentic, text-full, too-long, too-many}
 use Rattle.ledger_requests.proofs.Cells.{place-in}
-use Rattle.tables.proofs.Stored.{lengths}
+use Rattle.machine.specs.Rooms.{key-room}
+use Rattle.records.specs.declared.Role.the-variants.{Agent}
 use Rattle.tables.proofs.Within.{within}
+use Rattle.tables.specs.Tables.{Tables, tables}
+use Rattle.ledger_keys.specs.declared.Auth.the-variants as Auth
 use borrow.Author.Needs.{needs}
 use Rattle.ledger_requests.proofs.ask.request_sound.Statement.{statement}
 use Rattle.ledger_requests.proofs.ask.request_sound.Tie as tie
+
+-- the tables that are lent
+abbrev lent : tie.Start → Tables
+lent c = tables (c .args .book .now) (c .args .keys .now) (c .args .texts .now)
+
+abbrev at-start : tie.After-i → tie.Start
+at-start c = c .before .before .before .before .before .before .before .before
+
+-- the caller's key is at place i, within the room
+authed : (c : tie.After-i) → Authenticates (lent (at-start c)) (at-start c .args .caller) Agent (Auth.At (c .i .given .0 .0))
+authed c = rw (c .i .given .1) at (c .before .before .authenticate .ensures)
+
+in-room : (c : tie.After-i) → c .i .given .0 .0 < key-room
+in-room c = let w = at-start c .pre in place-in (w .stands) (authed c (w .ledger) (w .stands) .1)
 
 authenticate-requires : tie.Need-authenticate-requires
 authenticate-requires c κs = search needs
@@ -30,7 +49,7 @@ same-length-3 : tie.Need-same-length-3
 same-length-3 c = search needs
 
 returns : tie.Need-returns
-returns c = rw ((c .request-refused) .ensures) (not-authentic ((c .before .before .before .before .before .before .before .before .before .before) .args .caller) ((c .before .before .before .before .before .before .before .before .before .before) .args .action .now) ((c .before .before .before .before .before .before .before .before .before .before) .args .time) (rw ((c .before .before .why) .given .1) at ((c .before .before .before .before .authenticate) .ensures)))
+returns c = let a = c .before .before .before .before .before .before .before .before .before .before .args in rw (c .request-refused .ensures) (not-authentic (a .caller) (a .action .now) (a .time) (rw (c .before .before .why .given .1) at (c .before .before .before .before .authenticate .ensures)))
 
 request-refused-requires-2 : tie.Need-request-refused-requires-2
 request-refused-requires-2 c κs = search needs
@@ -45,7 +64,7 @@ same-length-6 : tie.Need-same-length-6
 same-length-6 c = search needs
 
 returns-2 : tie.Need-returns-2
-returns-2 c = rw ((c .request-refused2) .ensures) (empty ((c .before .before .before .before .before .before .before .before .before .before .before) .args .caller) ((c .before .before .before .before .before .before .before .before .before .before .before) .args .action .now) ((c .before .before .before .before .before .before .before .before .before .before .before) .args .time) (rw ((c .before .before .before .i) .given .1) at ((c .before .before .before .before .before .authenticate) .ensures)) ((c .before .if1) .taken))
+returns-2 c = let a = c .before .before .before .before .before .before .before .before .before .before .before .args in rw (c .request-refused2 .ensures) (empty (a .caller) (a .action .now) (a .time) (authed (c .before .before .before)) (c .before .if1 .taken))
 
 request-refused-requires-3 : tie.Need-request-refused-requires-3
 request-refused-requires-3 c κs = search needs
@@ -60,16 +79,16 @@ same-length-9 : tie.Need-same-length-9
 same-length-9 c = search needs
 
 returns-3 : tie.Need-returns-3
-returns-3 c = rw ((c .request-refused3) .ensures) (too-long ((c .before .before .before .before .before .before .before .before .before .before .before .before) .args .caller) ((c .before .before .before .before .before .before .before .before .before .before .before .before) .args .action .now) ((c .before .before .before .before .before .before .before .before .before .before .before .before) .args .time) (rw ((c .before .before .before .before .i) .given .1) at ((c .before .before .before .before .before .before .authenticate) .ensures)) ((c .before .before .if1) .left) ((c .before .if2) .taken))
+returns-3 c = let a = c .before .before .before .before .before .before .before .before .before .before .before .before .args in rw (c .request-refused3 .ensures) (too-long (a .caller) (a .action .now) (a .time) (authed (c .before .before .before .before)) (c .before .before .if1 .left) (c .before .if2 .taken))
 
 add-holder : tie.Need-add-holder
-add-holder c = let w = (c .before .before .before .before .before .before .before .before .before .before .before) .pre in let a = rw ((c .before .before .before .i) .given .1) at ((c .before .before .before .before .before .authenticate) .ensures) in omega (arith, lengths (w .stands), place-in (w .stands) (a (w .ledger) (w .stands) .1))
+add-holder c = omega (arith, within (c .before .before .before .before .before .before .before .before .before .before .before .pre), in-room (c .before .before .before))
 
 mul-holder : tie.Need-mul-holder
-mul-holder c = let w = (c .before .before .before .before .before .before .before .before .before .before .before) .pre in let a = rw ((c .before .before .before .i) .given .1) at ((c .before .before .before .before .before .authenticate) .ensures) in omega (arith, lengths (w .stands), place-in (w .stands) (a (w .ledger) (w .stands) .1))
+mul-holder c = omega (arith, within (c .before .before .before .before .before .before .before .before .before .before .before .pre), in-room (c .before .before .before))
 
 slice-copy-out-holder : tie.Need-slice-copy-out-holder
-slice-copy-out-holder c = let w = (c .before .before .before .before .before .before .before .before .before .before .before) .pre in let a = rw ((c .before .before .before .i) .given .1) at ((c .before .before .before .before .before .authenticate) .ensures) in omega (arith, lengths (w .stands), place-in (w .stands) (a (w .ledger) (w .stands) .1))
+slice-copy-out-holder c = omega (arith, within (c .before .before .before .before .before .before .before .before .before .before .before .pre), in-room (c .before .before .before))
 
 array-read-if3 : tie.Need-array-read-if3
 array-read-if3 c = search needs
@@ -87,10 +106,10 @@ same-length-12 : tie.Need-same-length-12
 same-length-12 c = search needs
 
 returns-4 : tie.Need-returns-4
-returns-4 c = rw ((c .request-refused4) .ensures) (too-many ((c .before .before .before .before .before .before .before .before .before .before .before .before .before .before) .args .caller) ((c .before .before .before .before .before .before .before .before .before .before .before .before .before .before) .args .action .now) ((c .before .before .before .before .before .before .before .before .before .before .before .before .before .before) .args .time) (rw ((c .before .before .before .before .before .before .i) .given .1) at ((c .before .before .before .before .before .before .before .before .authenticate) .ensures)) ((c .before .before .before .before .if1) .left) ((c .before .before .before .if2) .left) ((c .before .if3) .taken))
+returns-4 c = let a = c .before .before .before .before .before .before .before .before .before .before .before .before .before .before .args in rw (c .request-refused4 .ensures) (too-many (a .caller) (a .action .now) (a .time) (authed (c .before .before .before .before .before .before)) (c .before .before .before .before .if1 .left) (c .before .before .before .if2 .left) (c .before .if3 .taken))
 
 slice-copy-out-head : tie.Need-slice-copy-out-head
-slice-copy-out-head c = let w = within ((c .before .before .before .before .before .before .before .before .before .before .before .before .before) .pre) in omega arith
+slice-copy-out-head c = let w = within (c .before .before .before .before .before .before .before .before .before .before .before .before .before .pre) in omega arith
 
 array-read-if4 : tie.Need-array-read-if4
 array-read-if4 c = search needs
@@ -108,13 +127,13 @@ same-length-15 : tie.Need-same-length-15
 same-length-15 c = search needs
 
 returns-5 : tie.Need-returns-5
-returns-5 c = rw ((c .request-refused5) .ensures) (full ((c .before .before .before .before .before .before .before .before .before .before .before .before .before .before .before .before) .args .caller) ((c .before .before .before .before .before .before .before .before .before .before .before .before .before .before .before .before) .args .action .now) ((c .before .before .before .before .before .before .before .before .before .before .before .before .before .before .before .before) .args .time) (rw ((c .before .before .before .before .before .before .before .before .i) .given .1) at ((c .before .before .before .before .before .before .before .before .before .before .authenticate) .ensures)) ((c .before .before .before .before .before .before .if1) .left) ((c .before .before .before .before .before .if2) .left) ((c .before .before .before .if3) .left) ((c .before .if4) .taken))
+returns-5 c = let a = c .before .before .before .before .before .before .before .before .before .before .before .before .before .before .before .before .args in rw (c .request-refused5 .ensures) (full (a .caller) (a .action .now) (a .time) (authed (c .before .before .before .before .before .before .before .before)) (c .before .before .before .before .before .before .if1 .left) (c .before .before .before .before .before .if2 .left) (c .before .before .before .if3 .left) (c .before .if4 .taken))
 
 array-read-if5 : tie.Need-array-read-if5
 array-read-if5 c = search needs
 
 add-if5 : tie.Need-add-if5
-add-if5 c = let w = within ((c .before .before .before .before .before .before .before .before .before .before .before .before .before .before .before) .pre) in omega (arith, (c .before .before .before .before .if2) .left)
+add-if5 c = let w = within (c .before .before .before .before .before .before .before .before .before .before .before .before .before .before .before .pre) in omega (arith, (c .before .before .before .before .if2) .left)
 
 request-refused-requires-6 : tie.Need-request-refused-requires-6
 request-refused-requires-6 c κs = search needs
@@ -129,7 +148,7 @@ same-length-18 : tie.Need-same-length-18
 same-length-18 c = search needs
 
 returns-6 : tie.Need-returns-6
-returns-6 c = rw ((c .request-refused6) .ensures) (text-full ((c .before .before .before .before .before .before .before .before .before .before .before .before .before .before .before .before .before) .args .caller) ((c .before .before .before .before .before .before .before .before .before .before .before .before .before .before .before .before .before) .args .action .now) ((c .before .before .before .before .before .before .before .before .before .before .before .before .before .before .before .before .before) .args .time) (rw ((c .before .before .before .before .before .before .before .before .before .i) .given .1) at ((c .before .before .before .before .before .before .before .before .before .before .before .authenticate) .ensures)) ((c .before .before .before .before .before .before .before .if1) .left) ((c .before .before .before .before .before .before .if2) .left) ((c .before .before .before .before .if3) .left) ((c .before .before .if4) .left) ((c .before .if5) .taken))
+returns-6 c = let a = c .before .before .before .before .before .before .before .before .before .before .before .before .before .before .before .before .before .args in rw (c .request-refused6 .ensures) (text-full (a .caller) (a .action .now) (a .time) (authed (c .before .before .before .before .before .before .before .before .before)) (c .before .before .before .before .before .before .before .if1 .left) (c .before .before .before .before .before .before .if2 .left) (c .before .before .before .before .if3 .left) (c .before .before .if4 .left) (c .before .if5 .taken))
 
 array-read-t34 : tie.Need-array-read-t34
 array-read-t34 c = search needs
@@ -138,7 +157,7 @@ array-read-t42 : tie.Need-array-read-t42
 array-read-t42 c = search needs
 
 store-requires : tie.Need-store-requires
-store-requires c κs = let w = (c .before .before .before .before .before .before .before .before .before .before .before .before .before .before .before .before .before .before .before .before) .pre in let a = rw ((c .before .before .before .before .before .before .before .before .before .before .before .before .i) .given .1) at ((c .before .before .before .before .before .before .before .before .before .before .before .before .before .before .authenticate) .ensures) in record { sized = lengths (w .stands); place = place-in (w .stands) (a (w .ledger) (w .stands) .1); few = (c .before .before .before .before .before .before .before .if3) .left; room = (c .before .before .before .before .before .if4) .left; text = (c .before .before .before .before .if5) .left }
+store-requires c κs = record { sized = within (c .before .before .before .before .before .before .before .before .before .before .before .before .before .before .before .before .before .before .before .before .pre) .sized; place = in-room (c .before .before .before .before .before .before .before .before .before .before .before .before); few = (c .before .before .before .before .before .before .before .if3) .left; room = (c .before .before .before .before .before .if4) .left; text = (c .before .before .before .before .if5) .left }
 
 array-read-t34-2 : tie.Need-array-read-t34-2
 array-read-t34-2 c = search needs
@@ -156,7 +175,7 @@ same-length-21 : tie.Need-same-length-21
 same-length-21 c = search needs
 
 returns-7 : tie.Need-returns-7
-returns-7 c = rw ((c .request-of) .ensures) (asks-for ((c .before .before .before .before .before .before .before .before .before .before .before .before .before .before .before .before .before .before .before .before .before .before .before .before .before .before) .args .caller) ((c .before .before .before .before .before .before .before .before .before .before .before .before .before .before .before .before .before .before .before .before .before .before .before .before .before .before) .args .action .now) ((c .before .before .before .before .before .before .before .before .before .before .before .before .before .before .before .before .before .before .before .before .before .before .before .before .before .before) .args .time) (rw ((c .before .before .before .before .before .before .before .before .before .before .before .before .before .before .before .before .before .before .i) .given .1) at ((c .before .before .before .before .before .before .before .before .before .before .before .before .before .before .before .before .before .before .before .before .authenticate) .ensures)) ((c .before .before .before .before .before .before .before .before .before .before .before .before .before .before .before .before .if1) .left) ((c .before .before .before .before .before .before .before .before .before .before .before .before .before .before .before .if2) .left) ((c .before .before .before .before .before .before .before .before .before .before .before .before .before .if3) .left) ((c .before .before .before .before .before .before .before .before .before .before .before .if4) .left) ((c .before .before .before .before .before .before .before .before .before .before .if5) .left) ((c .before .before .before .before .before .store) .ensures))
+returns-7 c = let a = c .before .before .before .before .before .before .before .before .before .before .before .before .before .before .before .before .before .before .before .before .before .before .before .before .before .before .args in rw (c .request-of .ensures) (asks-for (a .caller) (a .action .now) (a .time) (authed (c .before .before .before .before .before .before .before .before .before .before .before .before .before .before .before .before .before .before)) (c .before .before .before .before .before .before .before .before .before .before .before .before .before .before .before .before .if1 .left) (c .before .before .before .before .before .before .before .before .before .before .before .before .before .before .before .if2 .left) (c .before .before .before .before .before .before .before .before .before .before .before .before .before .if3 .left) (c .before .before .before .before .before .before .before .before .before .before .before .if4 .left) (c .before .before .before .before .before .before .before .before .before .before .if5 .left) (c .before .before .before .before .before .store .ensures))
 
 pub request-sound-spec : {M : Type 1} → statement M
 request-sound-spec =

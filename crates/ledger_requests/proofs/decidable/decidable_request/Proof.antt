@@ -43,10 +43,10 @@ enum-told : tie.Need-enum-told
 enum-told c = search needs
 
 returns-4 : tie.Need-returns-4
-returns-4 c = record { decides = λ st. let h = there st ((c .before .before .before .before .before .before .if1) .left) in agent-revoked st (h .1) ((c .before .before .before .before .if2) .left) ((c .before .before .before .if3) .left) ((rw ((c .enum-told) .given .1) at ((c .before .before .live-agent-registration) .ensures)) .told st (h .1)) }
+returns-4 c = record { decides = λ st. let h = there st ((c .before .before .before .before .before .before .if1) .left) in agent-revoked st (h .1) ((c .before .before .before .before .if2) .left) ((c .before .before .before .if3) .left) ((rw ((c .enum-told) .given .1) at ((c .before .before .live-agent-registration) .ensures)) .lives st (h .1)) }
 
 returns-5 : tie.Need-returns-5
-returns-5 c = record { decides = λ st. let h = there st ((c .before .before .before .before .before .before .before .if1) .left) in let l = (rw ((c .before .i) .given .1) at ((c .before .before .before .live-agent-registration) .ensures)) .told st (h .1) in (h .0, l .0, h .1, l .1, may-be-decided st (h .1) ((c .before .before .before .before .before .if2) .left) ((c .before .before .before .before .if3) .left) (l .2)) }
+returns-5 c = record { decides = λ st. let h = there st ((c .before .before .before .before .before .before .before .if1) .left) in let l = (rw ((c .before .i) .given .1) at ((c .before .before .before .live-agent-registration) .ensures)) .lives st (h .1) in (h .0, l .0, h .1, l .1, may-be-decided st (h .1) ((c .before .before .before .before .before .if2) .left) ((c .before .before .before .before .if3) .left) (l .2)) }
 
 pub decidable-request-spec : {M : Type 1} → statement M
 decidable-request-spec =

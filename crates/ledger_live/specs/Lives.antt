@@ -10,10 +10,10 @@ use Rattle.tables.specs.Tables.{Stands, Tables}
 use Rattle.ledger_live.specs.declared.Live.the-variants as Live
 
 -- the machine's answer, told by the place alone
-abbrev pub Told : Ledger → Option Place → Live → Type 0
-Told L o (Live.At i) = (p : Holder) × At (L .keys) i p × (o ≡ some (record { at = i; is = p }))
-Told L o Live.Nothing = o ≡ none
+abbrev pub LivesAs : Ledger → Option Place → Live → Type 0
+LivesAs L o (Live.At i) = (p : Holder) × At (L .keys) i p × (o ≡ some (record { at = i; is = p }))
+LivesAs L o Live.Nothing = o ≡ none
 
 -- for whatever sound ledger the tables hold, and its request n
-pub record LiveTold (t : Tables) (n : ℕ) (l : Live) : Type 0 where
-  pub told : {L : Ledger} {r : Request} → Stands t L → At (L .requests) n r → Told L (live L n (r .asked)) l
+pub record Lives (t : Tables) (n : ℕ) (l : Live) : Type 0 where
+  pub lives : {L : Ledger} {r : Request} → Stands t L → At (L .requests) n r → LivesAs L (live L n (r .asked)) l

@@ -1,0 +1,13 @@
+-- `ledger::read::shown_refused` meets its contract. Assumes nothing.
+use borrow.Author.Needs.{needs}
+use Rattle.ledger.proofs.read.shown_refused.Statement.{statement}
+use Rattle.ledger.proofs.read.shown_refused.Tie as tie
+
+proof-refused-requires : tie.Need-proof-refused-requires
+proof-refused-requires c κs = search needs
+
+returns : tie.Need-returns
+returns c = rw ((c .before .proof-refused) .ensures)
+
+pub shown-refused-spec : {M : Type 1} → statement M
+shown-refused-spec = tie.close (tie.spec proof-refused-requires returns)

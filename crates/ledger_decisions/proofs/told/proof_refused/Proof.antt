@@ -1,0 +1,13 @@
+-- `ledger_decisions::told::proof_refused` meets its contract. Assumes nothing.
+use borrow.Author.Needs.{needs}
+use Rattle.ledger_decisions.proofs.told.proof_refused.Statement.{statement}
+use Rattle.ledger_decisions.proofs.told.proof_refused.Tie as tie
+
+proof-of-requires : tie.Need-proof-of-requires
+proof-of-requires c κs = search needs
+
+returns : tie.Need-returns
+returns c = rw (c .proof-of .ensures)
+
+pub proof-refused-spec : {M : Type 1} → statement M
+proof-refused-spec = tie.close (tie.spec proof-of-requires returns)
