@@ -1,0 +1,84 @@
+-- `commands::kind::read_request` meets its contract: what is read on the way is the table's, in its order. Assumes nothing.
+use borrow.Author.Needs.{needs}
+use Rattle.fields.specs.Fields.{requesting}
+use Rattle.fields.specs.Groups.{caller}
+use Rattle.fields.specs.Parts.{Gives, by, Noting}
+use Rattle.fields.proofs.Sequences.{within}
+use Rattle.commands.specs.Commands.{fields-of}
+use Rattle.commands.proofs.Contents.{halted}
+use Rattle.commands.proofs.kind.read_request.Statement.{statement}
+use Rattle.commands.proofs.kind.read_request.Tie as tie
+
+who : (c : tie.After-read) →
+    let a = c .before .before .before .before .args in
+    let w = c .before .before .caller .result in
+    Gives caller (a .value .now) (a .off) 0 (by (w .predecessor) (w .signer) (w .key)) (c .read .given .0 .0)
+who c = rw (c .read .given .1) at (c .before .before .caller .ensures)
+
+noted : (c : tie.After-t) →
+    let p = c .before .before .before .before in
+    let a = c .before .before .before .before .before .before .before .before .args in
+    Noting (a .value .now) (a .off) (p .read .given .0 .0) (c .t .given .0 .0)
+noted c = rw (c .t .given .1) at (c .before .before .message .ensures)
+
+caller-requires : tie.Need-caller-requires
+caller-requires c κs = search needs
+
+enum-known-read : tie.Need-enum-known-read
+enum-known-read c = search needs
+
+enum-known-read-2 : tie.Need-enum-known-read-2
+enum-known-read-2 c = search needs
+
+stopped-requires : tie.Need-stopped-requires
+stopped-requires c κs = search needs
+
+returns : tie.Need-returns
+unfolding fields-of
+returns c =
+    let a = c .before .before .before .before .before .before .args in
+    let h = rw (c .before .before .read2 .given .1) at (c .before .before .before .before .caller .ensures) in
+    halted (fields-of requesting) (a .value .now) (a .off) (rw (h .0 .stops)) (c .stopped .ensures)
+
+message-requires : tie.Need-message-requires
+message-requires c κs = within (c .before .before .before .before .before .pre) (who (c .before))
+
+enum-known-t : tie.Need-enum-known-t
+enum-known-t c = search needs
+
+enum-known-why : tie.Need-enum-known-why
+enum-known-why c = search needs
+
+stopped-requires-2 : tie.Need-stopped-requires-2
+stopped-requires-2 c κs = search needs
+
+returns-2 : tie.Need-returns-2
+unfolding fields-of
+returns-2 c =
+    let k = c .before .before .before .before .before .before in
+    let a = k .before .before .before .before .args in
+    let h = rw (c .before .before .why .given .1) at (c .before .before .before .before .message .ensures) in
+    halted (fields-of requesting) (a .value .now) (a .off) (rw (who k .reads, h .stops)) (c .stopped2 .ensures)
+
+returns-3 : tie.Need-returns-3
+unfolding fields-of
+returns-3 c =
+    let t = c .before .before .before .before .before in
+    let k = t .before .before .before .before in
+    record { gives = record { reads = rw (who k .reads, noted t .gives .reads); inside = noted t .gives .inside }; beside = tt; placed = noted t .lies }
+
+pub read-request-spec : {M : Type 1} → statement M
+read-request-spec =
+    tie.close
+    (tie.spec
+    caller-requires
+    enum-known-read
+    enum-known-read-2
+    stopped-requires
+    returns
+    message-requires
+    enum-known-t
+    enum-known-why
+    stopped-requires-2
+    returns-2
+    returns-3)

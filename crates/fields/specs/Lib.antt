@@ -1,0 +1,6 @@
+pub mod Faults
+pub mod Numbers
+pub mod Reader
+pub mod Fields
+pub mod Groups
+pub mod Parts
