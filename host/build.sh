@@ -1,0 +1,68 @@
+#!/bin/sh
+# Builds the comparison host and runs it, for the gate: host/build.sh [subcommand and options]; by itself it compares 20,000 files.
+# With crate capi listed, the proved archive is built and linked, and the C program is run first; else the rebuild is compared with
+# itself in tables. `host/build.sh tests` runs the host's own tests. The archive is x86-64: on aarch64 Rust and C are cross-built with
+# Debian's rustc and emulated. What is missing is installed by its Debian name; where that can't be done, one line says so.
+set -u
+here=$(cd "$(dirname "$0")" && pwd) || exit 1
+root=$(dirname "$here")
+archives=$root/target/staticlib
+packages="rustc libstd-rust-dev:amd64 gcc-x86-64-linux-gnu libc6-dev-amd64-cross qemu-user"
+[ $# -gt 0 ] || set -- compare --files 20000 --seed 1
+
+fail() { echo "host: $*"; exit 1; }
+
+install() {
+    command -v apt-get >/dev/null || fail "no apt-get to install $* with"
+    export DEBIAN_FRONTEND=noninteractive
+    { apt-get update && apt-get install -y --no-install-recommends "$@"; } >"$here/target/install.log" 2>&1 || fail "$* can't be installed"
+}
+
+# a command, and the packages that give it
+need() {
+    command -v "$1" >/dev/null && return
+    shift
+    install "$@"
+}
+
+# Debian's own compiler for amd64, with what it links against and runs under
+need_cross() {
+    command -v qemu-x86_64 >/dev/null && command -v x86_64-linux-gnu-gcc >/dev/null && dpkg -L rustc libstd-rust-dev:amd64 >/dev/null 2>&1 && return
+    dpkg --add-architecture amd64 2>/dev/null || fail "amd64 can't be added as an architecture"
+    # shellcheck disable=SC2086
+    install $packages
+}
+
+# sets `built`; cargo finds the archive by build.rs
+build() {
+    case $machine$port in
+        x86_64) cargo build --release --offline --quiet && built=target/release/brasstally-host ;;
+        x86_64yes) cargo build --release --offline --quiet --features port && built=target/release/brasstally-host ;;
+        aarch64) rustc -O --edition 2021 src/main.rs -o target/host && built=target/host ;;
+        *) "$(dpkg -L rustc | grep 'bin/rustc$')" -O --edition 2021 --cfg 'feature="port"' --target x86_64-unknown-linux-gnu \
+            -C linker=x86_64-linux-gnu-gcc src/main.rs -o target/host -L native="$archives" && built=target/host ;;
+    esac
+}
+
+machine=$(uname -m) port='' cc=gcc run=''
+mkdir -p "$here/target" && cd "$here" || exit 1
+grep -q '^capi:' "$root/crates.txt" 2>/dev/null && port=yes
+[ "$1" = tests ] && port=''
+case $machine$port in
+    x86_64*) need rustc rustc; need cargo cargo; need gcc gcc libc6-dev ;;
+    aarch64) need rustc rustc; need gcc gcc libc6-dev ;;
+    aarch64yes) need_cross; cc=x86_64-linux-gnu-gcc run=qemu-x86_64 ;;
+    *) fail "no way to build on $machine" ;;
+esac
+
+if [ "$1" = tests ]; then
+    rustc -O --edition 2021 --test src/main.rs -o target/host-tests || fail "the tests can't be built"
+    exec target/host-tests
+fi
+if [ -n "$port" ]; then
+    (cd "$root" && rt staticlib capi) >target/staticlib.log 2>&1 || fail "the archive of crate capi can't be built, see host/target/staticlib.log"
+    $cc -std=c99 -pedantic -Wall -Wextra -Werror -Iinclude c/smoke.c "$archives/libcapi.a" -o target/smoke || fail "the C program can't be built"
+    $run target/smoke || fail "the C program failed"
+fi
+build || fail "the host can't be built"
+exec $run "$built" "$@"
