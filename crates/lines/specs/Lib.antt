@@ -1,0 +1,4 @@
+pub mod Decimal
+pub mod Output
+pub mod Lines
+pub mod Replies
