@@ -2,13 +2,16 @@
 use crate::outcome::Outcome;
 use crate::people;
 use crate::tries;
+use crate::tries::Book;
+use crate::tries::Keys;
+use crate::tries::Texts;
 use records::Role;
 
 // A requests the same action, n times.
 pub fn requests(
-    book: &mut [[u64; 6]; 1089],
-    keys: &mut [[u8; 32]; 576],
-    texts: &mut [u8; 32768],
+    book: &mut Book,
+    keys: &mut Keys,
+    texts: &mut Texts,
     action: &[u8],
     n: u64,
 ) -> Outcome {
@@ -22,12 +25,7 @@ pub fn requests(
 }
 
 // A requests and B approves, n times from a ledger without requests.
-pub fn approvals(
-    book: &mut [[u64; 6]; 1089],
-    keys: &mut [[u8; 32]; 576],
-    texts: &mut [u8; 32768],
-    n: u64,
-) -> Outcome {
+pub fn approvals(book: &mut Book, keys: &mut Keys, texts: &mut Texts, n: u64) -> Outcome {
     let mut last = Outcome::Count(0);
     let mut i = 0;
     while i < n {
@@ -39,12 +37,7 @@ pub fn approvals(
 }
 
 // Adds agents 0 to n - 1, of whom the first leave, so that no more than 64 stay.
-pub fn adds(
-    book: &mut [[u64; 6]; 1089],
-    keys: &mut [[u8; 32]; 576],
-    texts: &mut [u8; 32768],
-    n: u64,
-) -> Outcome {
+pub fn adds(book: &mut Book, keys: &mut Keys, texts: &mut Texts, n: u64) -> Outcome {
     let mut last = Outcome::Count(0);
     let mut i = 0;
     while i < n {

@@ -4,13 +4,16 @@ use crate::people;
 use crate::rounds;
 use crate::tell;
 use crate::tries;
+use crate::tries::Book;
+use crate::tries::Keys;
+use crate::tries::Texts;
 use ids::Account;
 use records::Refusal;
 use records::RequestStatus;
 use records::Role;
 
 // Owner 7; A an agent, B and C approvers.
-fn staffed(book: &mut [[u64; 6]; 1089], keys: &mut [[u8; 32]; 576], texts: &mut [u8; 32768]) {
+fn staffed(book: &mut Book, keys: &mut Keys, texts: &mut Texts) {
     ledger::open(book, keys, texts, Account(7));
     tries::add(book, keys, texts, 7, people::a(), Role::Agent);
     tries::add(book, keys, texts, 7, people::b(), Role::Approver);
@@ -18,57 +21,37 @@ fn staffed(book: &mut [[u64; 6]; 1089], keys: &mut [[u8; 32]; 576], texts: &mut 
 }
 
 // The same, and request 0 of A's.
-fn asked(book: &mut [[u64; 6]; 1089], keys: &mut [[u8; 32]; 576], texts: &mut [u8; 32768]) {
+fn asked(book: &mut Book, keys: &mut Keys, texts: &mut Texts) {
     staffed(book, keys, texts);
     tries::request(book, keys, texts, people::a(), b"maxrate=50");
 }
 
-pub fn registering(
-    book: &mut [[u64; 6]; 1089],
-    keys: &mut [[u8; 32]; 576],
-    texts: &mut [u8; 32768],
-) {
+pub fn registering(book: &mut Book, keys: &mut Keys, texts: &mut Texts) {
     staffed(book, keys, texts);
     let by_8 = tries::add(book, keys, texts, 8, people::agent(0), Role::Agent);
-    tell::line(b"Caller 8 adds", by_8, Outcome::Refused(Refusal::NotOwner));
+    tell::refused(b"Caller 8 adds", by_8, Refusal::NotOwner);
     let twice = tries::add(book, keys, texts, 7, people::a(), Role::Agent);
-    tell::line(
-        b"A added twice",
-        twice,
-        Outcome::Refused(Refusal::KeyAlreadyRegistered),
-    );
+    tell::refused(b"A added twice", twice, Refusal::KeyAlreadyRegistered);
     let unknown = tries::revoke(book, keys, texts, people::agent(0));
-    tell::line(
+    tell::refused(
         b"Revoking an unknown key",
         unknown,
-        Outcome::Refused(Refusal::KeyNotRegistered),
+        Refusal::KeyNotRegistered,
     );
 }
 
-pub fn text_lengths(
-    book: &mut [[u64; 6]; 1089],
-    keys: &mut [[u8; 32]; 576],
-    texts: &mut [u8; 32768],
-) {
+pub fn text_lengths(book: &mut Book, keys: &mut Keys, texts: &mut Texts) {
     staffed(book, keys, texts);
     let text = [b'x'; 2049];
     let empty = tries::request(book, keys, texts, people::a(), &text[..0]);
-    tell::line(b"Empty text", empty, Outcome::Refused(Refusal::EmptyAction));
+    tell::refused(b"Empty text", empty, Refusal::EmptyAction);
     let longest = tries::request(book, keys, texts, people::a(), &text[..2048]);
     tell::line(b"2,048 bytes", longest, Outcome::Accepted(0));
     let longer = tries::request(book, keys, texts, people::a(), &text);
-    tell::line(
-        b"2,049 bytes",
-        longer,
-        Outcome::Refused(Refusal::ActionTooLong),
-    );
+    tell::refused(b"2,049 bytes", longer, Refusal::ActionTooLong);
 }
 
-pub fn sixteen_pending(
-    book: &mut [[u64; 6]; 1089],
-    keys: &mut [[u8; 32]; 576],
-    texts: &mut [u8; 32768],
-) {
+pub fn sixteen_pending(book: &mut Book, keys: &mut Keys, texts: &mut Texts) {
     staffed(book, keys, texts);
     let sixteenth = rounds::requests(book, keys, texts, b"maxrate=50", 16);
     tell::line(
@@ -77,77 +60,53 @@ pub fn sixteen_pending(
         Outcome::Accepted(15),
     );
     let more = tries::request(book, keys, texts, people::a(), b"maxrate=50");
-    tell::line(
-        b"Sixteen pending, one more",
-        more,
-        Outcome::Refused(Refusal::TooManyPending),
-    );
+    tell::refused(b"Sixteen pending, one more", more, Refusal::TooManyPending);
     let empty = tries::request(book, keys, texts, people::a(), b"");
-    tell::line(
+    tell::refused(
         b"Sixteen pending, one more with an empty text",
         empty,
-        Outcome::Refused(Refusal::EmptyAction),
+        Refusal::EmptyAction,
     );
 }
 
-pub fn another_text(
-    book: &mut [[u64; 6]; 1089],
-    keys: &mut [[u8; 32]; 576],
-    texts: &mut [u8; 32768],
-) {
+pub fn another_text(book: &mut Book, keys: &mut Keys, texts: &mut Texts) {
     asked(book, keys, texts);
     let short = tries::approve(book, keys, texts, people::b(), 0, b"maxrat=50");
-    tell::line(
+    tell::refused(
         b"maxrate=50 requested, B approves maxrat=50",
         short,
-        Outcome::Refused(Refusal::ActionMismatch),
+        Refusal::ActionMismatch,
     );
     let text = [b'x'; 2049];
     let empty = tries::approve(book, keys, texts, people::b(), 0, &text[..0]);
-    tell::line(
-        b"B approves an empty text",
-        empty,
-        Outcome::Refused(Refusal::ActionMismatch),
-    );
+    tell::refused(b"B approves an empty text", empty, Refusal::ActionMismatch);
     let longer = tries::approve(book, keys, texts, people::b(), 0, &text);
-    tell::line(
+    tell::refused(
         b"B approves an over-long text",
         longer,
-        Outcome::Refused(Refusal::ActionMismatch),
+        Refusal::ActionMismatch,
     );
 }
 
-pub fn own_account(
-    book: &mut [[u64; 6]; 1089],
-    keys: &mut [[u8; 32]; 576],
-    texts: &mut [u8; 32768],
-) {
+pub fn own_account(book: &mut Book, keys: &mut Keys, texts: &mut Texts) {
     asked(book, keys, texts);
     let right = tries::approve(book, keys, texts, people::c(), 0, b"maxrate=50");
-    tell::line(
+    tell::refused(
         b"C approves with the right text",
         right,
-        Outcome::Refused(Refusal::SelfApproval),
+        Refusal::SelfApproval,
     );
     let wrong = tries::approve(book, keys, texts, people::c(), 0, b"maxrat=50");
-    tell::line(
+    tell::refused(
         b"C approves with a wrong text",
         wrong,
-        Outcome::Refused(Refusal::ActionMismatch),
+        Refusal::ActionMismatch,
     );
     let rejected = tries::reject(book, keys, texts, people::c(), 0);
-    tell::line(
-        b"C rejects",
-        rejected,
-        Outcome::Refused(Refusal::SelfApproval),
-    );
+    tell::refused(b"C rejects", rejected, Refusal::SelfApproval);
 }
 
-pub fn agent_revoked(
-    book: &mut [[u64; 6]; 1089],
-    keys: &mut [[u8; 32]; 576],
-    texts: &mut [u8; 32768],
-) {
+pub fn agent_revoked(book: &mut Book, keys: &mut Keys, texts: &mut Texts) {
     asked(book, keys, texts);
     let before = tries::status(book, keys, texts, 0);
     tell::line(b"Request 0", before, Outcome::Is(RequestStatus::Pending));
@@ -176,46 +135,38 @@ pub fn agent_revoked(
         Outcome::Is(RequestStatus::Void),
     );
     let approved = tries::approve(book, keys, texts, people::b(), 0, b"maxrate=50");
-    tell::line(
+    tell::refused(
         b"A added again, B approves request 0",
         approved,
-        Outcome::Refused(Refusal::AgentRevoked),
+        Refusal::AgentRevoked,
     );
 }
 
-pub fn approved_before(
-    book: &mut [[u64; 6]; 1089],
-    keys: &mut [[u8; 32]; 576],
-    texts: &mut [u8; 32768],
-) {
+pub fn approved_before(book: &mut Book, keys: &mut Keys, texts: &mut Texts) {
     asked(book, keys, texts);
     let approved = tries::approve(book, keys, texts, people::b(), 0, b"maxrate=50");
     tell::line(b"B approves maxrate=50", approved, Outcome::Accepted(0));
     let rejected = tries::reject(book, keys, texts, people::b(), 0);
-    tell::line(
+    tell::refused(
         b"Approved, then rejected",
         rejected,
-        Outcome::Refused(Refusal::AlreadyApproved),
+        Refusal::AlreadyApproved,
     );
 }
 
-pub fn rejected_before(
-    book: &mut [[u64; 6]; 1089],
-    keys: &mut [[u8; 32]; 576],
-    texts: &mut [u8; 32768],
-) {
+pub fn rejected_before(book: &mut Book, keys: &mut Keys, texts: &mut Texts) {
     asked(book, keys, texts);
     let rejected = tries::reject(book, keys, texts, people::b(), 0);
     tell::line(b"B rejects", rejected, Outcome::Accepted(0));
     let approved = tries::approve(book, keys, texts, people::b(), 0, b"maxrat=50");
-    tell::line(
+    tell::refused(
         b"Rejected, then approved with a wrong text",
         approved,
-        Outcome::Refused(Refusal::AlreadyRejected),
+        Refusal::AlreadyRejected,
     );
 }
 
-pub fn pages(book: &mut [[u64; 6]; 1089], keys: &mut [[u8; 32]; 576], texts: &mut [u8; 32768]) {
+pub fn pages(book: &mut Book, keys: &mut Keys, texts: &mut Texts) {
     staffed(book, keys, texts);
     let last = rounds::approvals(book, keys, texts, 120);
     tell::line(b"The 120th approval", last, Outcome::Accepted(119));
@@ -233,26 +184,22 @@ pub fn pages(book: &mut [[u64; 6]; 1089], keys: &mut [[u8; 32]; 576], texts: &mu
     );
 }
 
-pub fn key_room(book: &mut [[u64; 6]; 1089], keys: &mut [[u8; 32]; 576], texts: &mut [u8; 32768]) {
+pub fn key_room(book: &mut Book, keys: &mut Keys, texts: &mut Texts) {
     ledger::open(book, keys, texts, Account(7));
     let last = rounds::adds(book, keys, texts, 100);
     tell::line(b"The 100th add, 64 registered", last, Outcome::Accepted(99));
     let more = tries::add(book, keys, texts, 7, people::agent(100), Role::Agent);
-    tell::line(
+    tell::refused(
         b"64 registered of 100 ever, one more",
         more,
-        Outcome::Refused(Refusal::KeysFull),
+        Refusal::KeysFull,
     );
     tries::revoke(book, keys, texts, people::agent(99));
     let freed = tries::add(book, keys, texts, 7, people::agent(100), Role::Agent);
     tell::line(b"After one revoke, the add", freed, Outcome::Accepted(100));
 }
 
-pub fn registration_room(
-    book: &mut [[u64; 6]; 1089],
-    keys: &mut [[u8; 32]; 576],
-    texts: &mut [u8; 32768],
-) {
+pub fn registration_room(book: &mut Book, keys: &mut Keys, texts: &mut Texts) {
     ledger::open(book, keys, texts, Account(7));
     let last = rounds::adds(book, keys, texts, 256);
     tell::line(
@@ -261,14 +208,10 @@ pub fn registration_room(
         Outcome::Accepted(255),
     );
     let more = tries::add(book, keys, texts, 7, people::agent(256), Role::Agent);
-    tell::line(
-        b"64 registered, 256 used, one more",
-        more,
-        Outcome::Refused(Refusal::LogFull),
-    );
+    tell::refused(b"64 registered, 256 used, one more", more, Refusal::LogFull);
 }
 
-pub fn text_room(book: &mut [[u64; 6]; 1089], keys: &mut [[u8; 32]; 576], texts: &mut [u8; 32768]) {
+pub fn text_room(book: &mut Book, keys: &mut Keys, texts: &mut Texts) {
     staffed(book, keys, texts);
     tries::add(book, keys, texts, 7, people::agent(0), Role::Agent);
     let text = [b'x'; 2048];
@@ -279,9 +222,9 @@ pub fn text_room(book: &mut [[u64; 6]; 1089], keys: &mut [[u8; 32]; 576], texts:
         Outcome::Accepted(15),
     );
     let byte = tries::request(book, keys, texts, people::agent(0), b"x");
-    tell::line(
+    tell::refused(
         b"Sixteen texts of 2,048, then one byte under another key",
         byte,
-        Outcome::Refused(Refusal::TextFull),
+        Refusal::TextFull,
     );
 }

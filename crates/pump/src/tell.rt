@@ -57,3 +57,7 @@ pub fn line(sentence: &[u8], got: Outcome, due: Outcome) {
     }
     say(b"\n");
 }
+
+pub fn refused(sentence: &[u8], got: Outcome, why: Refusal) {
+    line(sentence, got, Outcome::Refused(why));
+}

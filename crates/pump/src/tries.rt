@@ -10,6 +10,13 @@ use records::BlockTime;
 use records::Caller;
 use records::Role;
 
+// A ledger's tables; their lengths are in the types, so that lending them asks no proof.
+pub type Book = [[u64; 6]; 1089];
+
+pub type Keys = [[u8; 32]; 576];
+
+pub type Texts = [u8; 32768];
+
 // No answer of the examples hangs on the time.
 fn at() -> BlockTime {
     BlockTime {
@@ -54,9 +61,9 @@ fn accepted(answer: Answer, number: u64) -> Outcome {
 
 // The whole answer to an add: a scene may ask for more of it than the number.
 pub fn registered(
-    book: &mut [[u64; 6]; 1089],
-    keys: &mut [[u8; 32]; 576],
-    texts: &[u8; 32768],
+    book: &mut Book,
+    keys: &mut Keys,
+    texts: &Texts,
     caller: u64,
     who: Caller,
     role: Role,
@@ -67,9 +74,9 @@ pub fn registered(
 }
 
 pub fn add(
-    book: &mut [[u64; 6]; 1089],
-    keys: &mut [[u8; 32]; 576],
-    texts: &[u8; 32768],
+    book: &mut Book,
+    keys: &mut Keys,
+    texts: &Texts,
     caller: u64,
     who: Caller,
     role: Role,
@@ -77,20 +84,15 @@ pub fn add(
     registration(registered(book, keys, texts, caller, who, role))
 }
 
-pub fn revoke(
-    book: &mut [[u64; 6]; 1089],
-    keys: &mut [[u8; 32]; 576],
-    texts: &[u8; 32768],
-    who: Caller,
-) -> Outcome {
+pub fn revoke(book: &mut Book, keys: &mut Keys, texts: &Texts, who: Caller) -> Outcome {
     let key = who.signer_key;
     registration(ledger::revoke_key(book, keys, texts, Account(7), key, at()))
 }
 
 pub fn request(
-    book: &mut [[u64; 6]; 1089],
-    keys: &mut [[u8; 32]; 576],
-    texts: &mut [u8; 32768],
+    book: &mut Book,
+    keys: &mut Keys,
+    texts: &mut Texts,
     who: Caller,
     action: &[u8],
 ) -> Outcome {
@@ -102,9 +104,9 @@ pub fn request(
 }
 
 pub fn approve(
-    book: &mut [[u64; 6]; 1089],
-    keys: &mut [[u8; 32]; 576],
-    texts: &mut [u8; 32768],
+    book: &mut Book,
+    keys: &mut Keys,
+    texts: &mut Texts,
     who: Caller,
     request: u64,
     action: &[u8],
@@ -116,9 +118,9 @@ pub fn approve(
 }
 
 pub fn reject(
-    book: &mut [[u64; 6]; 1089],
-    keys: &mut [[u8; 32]; 576],
-    texts: &mut [u8; 32768],
+    book: &mut Book,
+    keys: &mut Keys,
+    texts: &mut Texts,
     who: Caller,
     request: u64,
 ) -> Outcome {
@@ -129,12 +131,7 @@ pub fn reject(
     accepted(answer, id.0)
 }
 
-pub fn status(
-    book: &[[u64; 6]; 1089],
-    keys: &[[u8; 32]; 576],
-    texts: &[u8; 32768],
-    request: u64,
-) -> Outcome {
+pub fn status(book: &Book, keys: &Keys, texts: &Texts, request: u64) -> Outcome {
     match ledger::request_status(book, keys, texts, RequestId(request)) {
         StatusAnswer::Is(status) => Outcome::Is(status),
         StatusAnswer::Refused(why) => Outcome::Refused(why),
@@ -142,13 +139,7 @@ pub fn status(
 }
 
 // How many entries a page has.
-pub fn page(
-    book: &[[u64; 6]; 1089],
-    keys: &[[u8; 32]; 576],
-    texts: &[u8; 32768],
-    from: u64,
-    limit: u64,
-) -> Outcome {
+pub fn page(book: &Book, keys: &Keys, texts: &Texts, from: u64, limit: u64) -> Outcome {
     let mut rows = [[0u64; 8]; 100];
     match ledger::approvals(book, keys, texts, from, limit, &mut rows) {
         Paged::Entries(n) => Outcome::Count(n),
