@@ -1,6 +1,12 @@
 // What each public call answers. For `ledger`, the crates of its parts, and all who call it.
+ghost use mathlib.Core.Path.{_≡_};
+ghost use Rattle.answers.specs.Answers.{no-proof};
+use ids::Account;
+use ids::RegistrationId;
+use ids::RequestId;
 use records::ActionRequest;
 use records::ApprovalProof;
+use records::BlockTime;
 use records::Principal;
 use records::ProofRevocations;
 use records::Refusal;
@@ -46,6 +52,28 @@ pub enum ProofAnswer {
 pub struct Shown {
     pub answer: ProofAnswer,
     pub proof: ApprovalProof,
+}
+
+// Stands beside every answer that has no proof.
+pub fn no_proof() -> ApprovalProof
+    ensures { λ r. ⌜ r ≡ no-proof ⌝ }
+{
+    let never = BlockTime {
+        height: 0,
+        timestamp_ns: 0,
+    };
+    ApprovalProof {
+        approval_index: 0,
+        request_id: RequestId(0),
+        agent_account_id: Account(0),
+        agent_key: [0; 32],
+        agent_registration_id: RegistrationId(0),
+        requested_at: never,
+        approver_account_id: Account(0),
+        approver_key: [0; 32],
+        approver_registration_id: RegistrationId(0),
+        approved_at: never,
+    }
 }
 
 pub enum RevocationsAnswer {

@@ -35,8 +35,7 @@ pub fn request_status(
 fn shown_refused(why: Refusal) -> Shown
     ensures { λ r. ⌜ r ≡ record { answer = ProofAnswer.Refused why; proof = no-proof } ⌝ }
 {
-    let none = ledger_decisions::proof_refused(why);
-    let proof = none.proof;
+    let proof = answers::no_proof();
     Shown {
         answer: ProofAnswer::Refused(why),
         proof,

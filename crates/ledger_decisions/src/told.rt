@@ -46,7 +46,7 @@ pub fn proof_of(
 pub fn proof_refused(why: Refusal) -> Proved
     ensures { λ r. ⌜ r ≡ proved (refused why) ⌝ }
 {
-    let proof = proof_of(RequestId(0), [0; 6], [0; 32], [0; 6], [0; 32]);
+    let proof = answers::no_proof();
     Proved {
         answer: Answer::Refused(why),
         proof,

@@ -34,24 +34,10 @@ fn approved_at(book: &[[u64; 6]], keys: &[[u8; 32]], texts: &[u8], request: Requ
 fn nothing_shown() -> Shown
     ensures { λ r. ⌜ r ≡ shown none ⌝ }
 {
-    let never = BlockTime {
-        height: 0,
-        timestamp_ns: 0,
-    };
+    let proof = answers::no_proof();
     Shown {
         answer: ProofAnswer::Nothing,
-        proof: ApprovalProof {
-            approval_index: 0,
-            request_id: RequestId(0),
-            agent_account_id: Account(0),
-            agent_key: [0; 32],
-            agent_registration_id: RegistrationId(0),
-            requested_at: never,
-            approver_account_id: Account(0),
-            approver_key: [0; 32],
-            approver_registration_id: RegistrationId(0),
-            approved_at: never,
-        },
+        proof,
     }
 }
 

@@ -3,11 +3,11 @@ use borrow.Author.Needs.{needs}
 use Rattle.ledger_decisions.proofs.told.proof_refused.Statement.{statement}
 use Rattle.ledger_decisions.proofs.told.proof_refused.Tie as tie
 
-proof-of-requires : tie.Need-proof-of-requires
-proof-of-requires c κs = search needs
+no-proof-requires : tie.Need-no-proof-requires
+no-proof-requires c κs = search needs
 
 returns : tie.Need-returns
-returns c = rw (c .proof-of .ensures)
+returns c = rw (c .no-proof .ensures)
 
 pub proof-refused-spec : {M : Type 1} → statement M
-proof-refused-spec = tie.close (tie.spec proof-of-requires returns)
+proof-refused-spec = tie.close (tie.spec no-proof-requires returns)
