@@ -7,3 +7,4 @@ pub mod Determined
 pub mod Progress
 pub mod Written
 pub mod Example
+pub mod First

@@ -17,7 +17,7 @@ use Rattle.commands.specs.Commands.{after, file-by, read-from}
 use Rattle.commands.proofs.Outer.{run-ends}
 
 -- ---- what a command's being read says of the tests before it
-passed : (b : Bool) (f : Fault) (o : Option Fault) → cond b (some f) o ≡ none → (b ≡ false) × (o ≡ none)
+pub passed : (b : Bool) (f : Fault) (o : Option Fault) → cond b (some f) o ≡ none → (b ≡ false) × (o ≡ none)
 passed true f o e = let z : _≡_ {A = ℕ} 0 1 = cc in absurd (omega arith)
 passed false f o e = (refl, e)
 
@@ -33,7 +33,7 @@ fitting due rest e =
     let p5 : fifth ≡ none = passed (not (due (tag-of rest))) FieldOrder fifth p4 .1 in
     ltb-false (length rest) (3 + length-of rest) (passed past CutField none p5 .0)
 
-not-at-end : (b : Bool) (place : ℕ) (c : Command) (next : ℕ) → at-end b place ≡ command c next → ⊥
+pub not-at-end : (b : Bool) (place : ℕ) (c : Command) (next : ℕ) → at-end b place ≡ command c next → ⊥
 not-at-end true place c next e = let z : _≡_ {A = ℕ} 0 1 = cc in omega arith
 not-at-end false place c next e = let z : _≡_ {A = ℕ} 0 1 = cc in omega arith
 
@@ -46,14 +46,14 @@ by-rules n none place g c next e = (refl, by-value n g c next e)
 by-rules n (some f) place g c next e = let z : _≡_ {A = ℕ} 0 1 = cc in absurd (omega arith)
 
 module _ (input : Bytes) (at : ℕ) (c : Command) (next : ℕ) where
-  from-rules : none-left (drop at input) ≡ false → read-command input at ≡ command c next
+  pub from-rules : none-left (drop at input) ≡ false → read-command input at ≡ command c next
       → (first (second-to-fifth (due (eqb at 0)) (drop at input)) ≡ none) × (next ≡ at + 3 + length-of (drop at input))
   unfolding read-outer
   from-rules h e =
       by-rules (at + 3 + length-of (drop at input)) (first (second-to-fifth (due (eqb at 0)) (drop at input))) at
       (contents-of (kind-of (tag-of (drop at input))) (value-of (drop at input)) (at + 3)) c next (rw h at e)
 
-  nothing-left : none-left (drop at input) ≡ true → read-command input at ≡ at-end (eqb at 0) at
+  pub nothing-left : none-left (drop at input) ≡ true → read-command input at ≡ at-end (eqb at 0) at
   unfolding read-outer
   nothing-left h = rw h
 
