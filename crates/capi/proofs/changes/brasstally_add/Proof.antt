@@ -2,6 +2,7 @@
 use Rattle.ids.proofs.Flags.{confirmed, refuted}
 use Rattle.capi.proofs.Telling.{adds, roleless, roleless-damaged, told}
 use Rattle.capi.specs.Outcomes.{registered-outcome}
+use native.Mathlib.Omega.{arith}
 use borrow.Author.Needs.{needs}
 use Rattle.capi.proofs.changes.brasstally_add.Statement.{statement}
 use Rattle.capi.proofs.changes.brasstally_add.Tie as tie
@@ -19,7 +20,7 @@ same-length-2 : tie.Need-same-length-2
 same-length-2 c = search needs
 
 returns : tie.Need-returns
-returns c = rw ((c .refused) .ensures) (roleless-damaged _ _ _ _ ((c .before .before .before .before .before .if1) .taken) (refuted ((c .before .before .is-sound) .ensures) ((c .before .if2) .taken)))
+returns c = rw ((c .refused) .ensures) (roleless-damaged _ _ _ (c .before .before .before .before .before .before .before .args .role) (omega (arith, (c .before .before .before .before .before .if1) .taken)) (refuted ((c .before .before .is-sound) .ensures) ((c .before .if2) .taken)))
 
 same-length-3 : tie.Need-same-length-3
 same-length-3 c = search needs
@@ -28,7 +29,7 @@ same-length-4 : tie.Need-same-length-4
 same-length-4 c = search needs
 
 returns-2 : tie.Need-returns-2
-returns-2 c = roleless _ _ _ _ ((c .before .before .before .before .if1) .taken) (confirmed ((c .before .is-sound) .ensures) ((c .if2) .left))
+returns-2 c = roleless _ _ _ (c .before .before .before .before .before .before .args .role) (omega (arith, (c .before .before .before .before .if1) .taken)) (confirmed ((c .before .is-sound) .ensures) ((c .if2) .left))
 
 role-by-number-requires : tie.Need-role-by-number-requires
 role-by-number-requires c κs = search needs
@@ -46,7 +47,7 @@ same-length-6 : tie.Need-same-length-6
 same-length-6 c = search needs
 
 returns-3 : tie.Need-returns-3
-returns-3 c = rw ((c .of-registered) .ensures) (adds _ _ _ _ ((c .before .before .before .before .before .before .before .before .if1) .left) (told registered-outcome (rw ((c .before .before .before .before .before .before .before .role-by-number) .ensures) at ((c .before .before .before .add-principal) .ensures))))
+returns-3 c = rw ((c .of-registered) .ensures) (adds _ _ _ (c .before .before .before .before .before .before .before .before .before .before .args .role) (omega (arith, (c .before .before .before .before .before .before .before .before .if1) .left)) (told registered-outcome (rw ((c .before .before .before .before .before .before .before .role-by-number) .ensures) at ((c .before .before .before .add-principal) .ensures))))
 
 pub brasstally-add-spec : {M : Type 1} → statement M
 brasstally-add-spec =

@@ -1,5 +1,5 @@
 -- `capi::proof::brasstally_revocations` meets its contract: the ledger's call, told. Assumes nothing.
-use Rattle.capi.proofs.Showing.{six-cells}
+use Rattle.capi.proofs.Showing.{ends-told}
 use Rattle.capi.proofs.Telling.{told}
 use Rattle.capi.specs.Outcomes.{revocations-told}
 use borrow.Author.Needs.{needs}
@@ -43,7 +43,7 @@ refused-requires : tie.Need-refused-requires
 refused-requires c κs = search needs
 
 returns : tie.Need-returns
-returns c = rw ((c .before .before .cells-of-end) .ensures, (c .before .cells-of-end2) .ensures, six-cells ((c .before .before .before .before .answer) .given .0 .0 .agent) ((c .before .before .before .before .answer) .given .0 .0 .approver)) (told (revocations-told _) (rw ((c .before .before .before .before .answer) .given .1) at ((c .before .before .before .before .before .before .proof-revocations) .ensures)))
+returns c = ends-told _ _ _ (rw ((c .before .before .before .before .answer) .given .1) at ((c .before .before .before .before .before .before .proof-revocations) .ensures)) _ _ ((c .before .before .cells-of-end) .ensures) ((c .before .cells-of-end2) .ensures)
 
 returns-2 : tie.Need-returns-2
 returns-2 c = rw ((c .refused) .ensures) (told (revocations-told _) (rw ((c .before .before .answer2) .given .1) at ((c .before .before .before .before .proof-revocations) .ensures)))
