@@ -31,6 +31,9 @@ static int calls(void)
 {
     brasstally_key a, b;
     brasstally_entry page[2];
+    brasstally_proof_row proof;
+    brasstally_ends_row ends;
+    brasstally_key by, to;
     memset(&a, 'A', sizeof a);
     memset(&b, 'B', sizeof b);
     memset(page, 0, sizeof page);
@@ -51,7 +54,19 @@ static int calls(void)
         printf("smoke: the page's entry is wrong\n");
         return 1;
     }
+    if (failed("add without a role", brasstally_add(TABLES, 7, &b, 2, 2), BRASSTALLY_NO_SUCH_ROLE, 0)) return 1;
+    if (failed("proof", brasstally_proof(TABLES, 0, &proof, &by, &to), 0, 1)) return 1;
+    if (proof.number[6] != 2 || proof.number[11] != strlen(asked) || memcmp(&by, &a, sizeof a) || memcmp(&to, &b, sizeof b)) {
+        printf("smoke: the proof is wrong\n");
+        return 1;
+    }
+    if (failed("no proof", brasstally_proof(TABLES, 1, &proof, &by, &to), 0, 0)) return 1;
     if (failed("revoke", brasstally_revoke(TABLES, 7, &a, 7, 8), 0, 0)) return 1;
+    if (failed("revocations", brasstally_revocations(TABLES, 0, 1, &ends), 0, 0)) return 1;
+    if (ends.number[0] != 1 || ends.number[2] != 8 || ends.number[3] != 0) {
+        printf("smoke: the revocations are wrong\n");
+        return 1;
+    }
     if (brasstally_is_sound(TABLES) != 1) {
         printf("smoke: the tables are not sound\n");
         return 1;

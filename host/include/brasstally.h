@@ -33,6 +33,13 @@ typedef struct {
     uint64_t number;
 } brasstally_outcome;
 
+/* Index, request, agent's account and registration, height and timestamp of the request, approver's account and
+   registration, height and timestamp of the approval, start of the text in the text table, length of the text. */
+typedef struct { uint64_t number[12]; } brasstally_proof_row;
+
+/* For the agent and then for the approver: 1 if the registration was revoked, else 0; height and timestamp of that. */
+typedef struct { uint64_t number[6]; } brasstally_ends_row;
+
 enum { BRASSTALLY_AGENT = 0, BRASSTALLY_APPROVER = 1 };
 
 enum {
@@ -63,7 +70,8 @@ enum {
     BRASSTALLY_KEYS_FULL = 18,
     BRASSTALLY_TEXT_FULL = 19,
     BRASSTALLY_DAMAGED = 20,
-    BRASSTALLY_PAGE_ROOM = 21
+    BRASSTALLY_PAGE_ROOM = 21,
+    BRASSTALLY_NO_SUCH_ROLE = 255
 };
 
 /* The tables of a ledger, as every call takes them. */
@@ -76,7 +84,8 @@ enum {
 /* Fills the tables with the empty ledger of an owner, whatever they held. */
 brasstally_outcome brasstally_open(BRASSTALLY_TABLES, uint64_t owner);
 
-/* The number is the registration's. */
+/* The number is the registration's. A role other than the two is BRASSTALLY_NO_SUCH_ROLE, which is this interface's own
+   and comes after BRASSTALLY_DAMAGED and before all else. */
 brasstally_outcome brasstally_add(BRASSTALLY_TABLES, uint64_t caller, const brasstally_key *key, uint64_t account,
                                   uint64_t role);
 brasstally_outcome brasstally_revoke(BRASSTALLY_TABLES, uint64_t caller, const brasstally_key *key, uint64_t height,
@@ -103,6 +112,14 @@ brasstally_outcome brasstally_status(BRASSTALLY_TABLES_READ, uint64_t request);
 /* The number is that of the entries, which are written to the front of `rows`. */
 brasstally_outcome brasstally_page(BRASSTALLY_TABLES_READ, uint64_t from, uint64_t limit, brasstally_entry *rows,
                                    size_t row_count);
+
+/* The number is 1 if the request has a proof, which is then written to the row and the keys; else 0, and they stay. */
+brasstally_outcome brasstally_proof(BRASSTALLY_TABLES_READ, uint64_t request, brasstally_proof_row *row,
+                                    brasstally_key *agent_key, brasstally_key *approver_key);
+
+/* When each of two registrations was revoked, if it was; any numbers may be asked for. The number is 0. */
+brasstally_outcome brasstally_revocations(BRASSTALLY_TABLES_READ, uint64_t agent, uint64_t approver,
+                                          brasstally_ends_row *row);
 
 /* 1 if the tables hold a sound ledger, else 0. */
 uint64_t brasstally_is_sound(BRASSTALLY_TABLES_READ);

@@ -3,6 +3,7 @@
 use crate::commands::Command;
 use crate::damage::Call;
 use crate::layout::{encode, Tables};
+use crate::proofs::{self, EndsRow, ProofRow};
 use crate::reader::read_all;
 use crate::rebuild::*;
 use crate::records::*;
@@ -17,6 +18,12 @@ pub type Verdict = Result<(), String>;
 const OUT_ROOM: usize = 1 << 21;
 const UNWRITTEN: u8 = 0xA5;
 const BLANK_ROW: Row = [0xA5A5_A5A5; 8];
+const BLANK_PROOF: ProofRow = ProofRow {
+    numbers: [0xA5A5_A5A5; 12],
+    agent_key: [UNWRITTEN; 32],
+    approver_key: [UNWRITTEN; 32],
+};
+const BLANK_ENDS: EndsRow = [0xA5A5_A5A5; 6];
 
 // How often each refusal, fault and accepted kind was met.
 #[derive(Clone, Debug, Default)]
@@ -129,10 +136,35 @@ impl<S: Subject> Comparer<S> {
 
     // Every proof and the revocations behind it, once a file.
     fn proves_the_same(&self, desk: &Desk) -> Verdict {
-        match (&desk.store, sound::decode(self.ours.tables())) {
-            (Some(store), Ok(shown)) => same_proofs(&shown, store),
-            _ => Ok(()),
+        let store = match &desk.store {
+            Some(store) => store,
+            None => return Ok(()),
+        };
+        for n in 0..store.request_count() + 1 {
+            self.same_reads(n, Some(store))?;
         }
+        match sound::decode(self.ours.tables()) {
+            Ok(shown) => same_proofs(&shown, store),
+            Err(_) => Ok(()),
+        }
+    }
+
+    // One proof read, and the ends of the two registrations with its number and the next; no store is no sound ledger.
+    fn same_reads(&self, n: u64, store: Option<&MemStore>) -> Verdict {
+        let (mut ours, mut theirs) = (BLANK_PROOF, BLANK_PROOF);
+        let answers = (
+            self.ours.proof(n, &mut ours),
+            proofs::proof(store, n, &mut theirs),
+        );
+        same(&format!("answer for proof {n}"), &answers.0, &answers.1)?;
+        same(&format!("lent for proof {n}"), &ours, &theirs)?;
+        let (mut ours, mut theirs) = (BLANK_ENDS, BLANK_ENDS);
+        let answers = (
+            self.ours.revocations(n, n + 1, &mut ours),
+            proofs::revocations(store, n, n + 1, &mut theirs),
+        );
+        same(&format!("answer for ends {n}"), &answers.0, &answers.1)?;
+        same(&format!("lent for ends {n}"), &ours, &theirs)
     }
 
     fn one_command(
@@ -177,6 +209,9 @@ impl<S: Subject> Comparer<S> {
             sized: call.tables.sized(),
             store: found.ok(),
         };
+        for n in [0, 1, 255, u64::MAX - 1] {
+            self.same_reads(n, desk.store.as_ref())?;
+        }
         let mut rows = vec![BLANK_ROW; call.room];
         let mut our_rows = rows.clone();
         let theirs = desk.act(&call.command, &mut rows);

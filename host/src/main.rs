@@ -15,6 +15,7 @@ mod mirror;
 #[cfg(feature = "port")]
 #[allow(unsafe_code)]
 mod port;
+mod proofs;
 mod pump;
 mod reader;
 mod rebuild;

@@ -2,6 +2,7 @@
 
 use crate::commands::Command;
 use crate::layout::{Cells, Tables};
+use crate::proofs::{EndsRow, ProofRow};
 use crate::rebuild::DEFAULT_PAGE_SIZE;
 use crate::records::*;
 use crate::subject::Subject;
@@ -106,6 +107,29 @@ extern "C" {
         limit: u64,
         rows: *mut Row,
         row_count: usize,
+    ) -> Outcome;
+    fn brasstally_proof(
+        book: *const Cells,
+        book_rows: usize,
+        keys: *const Key,
+        key_rows: usize,
+        texts: *const u8,
+        text_bytes: usize,
+        request: u64,
+        row: &mut [u64; 12],
+        agent_key: &mut Key,
+        approver_key: &mut Key,
+    ) -> Outcome;
+    fn brasstally_revocations(
+        book: *const Cells,
+        book_rows: usize,
+        keys: *const Key,
+        key_rows: usize,
+        texts: *const u8,
+        text_bytes: usize,
+        agent: u64,
+        approver: u64,
+        row: &mut EndsRow,
     ) -> Outcome;
     fn brasstally_is_sound(
         book: *const Cells,
@@ -276,6 +300,23 @@ impl Subject for Ledger {
 
     fn is_sound(&self) -> bool {
         lend!(&self.tables, as_ptr, brasstally_is_sound) == 1
+    }
+
+    fn proof(&self, request: RequestId, lent: &mut ProofRow) -> Outcome {
+        let (row, agent) = (&mut lent.numbers, &mut lent.agent_key);
+        let approver = &mut lent.approver_key;
+        let t = &self.tables;
+        lend!(t, as_ptr, brasstally_proof, request, row, agent, approver)
+    }
+
+    fn revocations(
+        &self,
+        agent: RegistrationId,
+        approver: RegistrationId,
+        row: &mut EndsRow,
+    ) -> Outcome {
+        let t = &self.tables;
+        lend!(t, as_ptr, brasstally_revocations, agent, approver, row)
     }
 
     fn replay(&mut self, input: &[u8], out: &mut [u8]) -> Outcome {

@@ -2,7 +2,9 @@
 
 use crate::commands::Command;
 use crate::layout::Tables;
-use crate::records::{Outcome, Row};
+use crate::proofs::{self, EndsRow, ProofRow};
+use crate::records::{Outcome, RegistrationId, RequestId, Row};
+use crate::sound;
 
 // A ledger in tables that answers single calls and whole command files.
 pub trait Subject {
@@ -12,6 +14,19 @@ pub trait Subject {
     // Does a command. Only a page writes to the rows.
     fn call(&mut self, command: &Command, rows: &mut [Row]) -> Outcome;
     fn is_sound(&self) -> bool;
+    // The proof of a request, and the ends of two registrations; where no archive does it, as the rebuild reads the tables.
+    fn proof(&self, request: RequestId, lent: &mut ProofRow) -> Outcome {
+        proofs::proof(sound::decode(self.tables()).ok().as_ref(), request, lent)
+    }
+    fn revocations(
+        &self,
+        agent: RegistrationId,
+        approver: RegistrationId,
+        row: &mut EndsRow,
+    ) -> Outcome {
+        let store = sound::decode(self.tables()).ok();
+        proofs::revocations(store.as_ref(), agent, approver, row)
+    }
     // Replays a command file; the number is that of the bytes written to `out`.
     fn replay(&mut self, input: &[u8], out: &mut [u8]) -> Outcome;
 }
