@@ -5,8 +5,9 @@ use mathlib.Core.Option.{Option, none, some}
 use mathlib.Core.List.{List, [], _++_, append-nil}
 use Prim.Native.Nat.{ℕ, suc, _+_, _-_, _≤_, _<_}
 use native.Mathlib.Omega.{arith}
-use lib.ListN.{length}
-use lib.Seq.{take-nil}
+use lib.ListN.{length, take, drop, length-append}
+use lib.Seq.{take-nil, length-take-le}
+use Rattle.io.specs.Counts.{Counts}
 use Rattle.lists.specs.Tallies.{bit}
 use Rattle.machine.specs.Types.{Bytes, Ledger}
 use Rattle.tables.specs.Tables.{Tables}
@@ -171,6 +172,12 @@ ran input {t} {t′} {out} {o} {out′} p {r} e g says same =
       tables = subst (λ (s : State). Ends t t′ (s .held)) (sym c) (g .tables .ends);
     }
 
+-- as a caller's `&out[..wrote]` asks
+pub wrote-counts : (was text : Bytes) {out : Bytes} {n : ℕ} → Wrote was text out n → Counts n out
+wrote-counts was text {out} {n} w =
+    let within : n ≤ length out = omega (arith, w .count, ap length (w .bytes), length-append (take (length was) text) (drop (length text) was)) in
+    (within, sym (length-take-le n out within))
+
 -- ---- a loop of steps
 pub record Since (input : Bytes) (t t′ : Tables) (out out′ : Bytes) (p p′ : Progress) : Type 0 where
   pub goes : (t₀ : Tables) (out₀ : Bytes) → Going input t₀ t out₀ out p → Going input t₀ t′ out₀ out′ p′
@@ -201,3 +208,14 @@ module _ (input : Bytes) {t u v : Tables} {out o x : Bytes} {p q r : Progress} (
       go : (b : Bool) → r .more ≡ b → length input - r .at + bit b < length input - q .at + 1
       go true e = let f = s .onward e in omega (arith, f .0, f .1, since .within)
       go false e = omega (arith, s .still e, since .within)
+
+-- ---- any two outcomes that the promise allows are the same
+ends-same : (t : Tables) {u v : Tables} (h : Option Ledger) → Ends t u h → Ends t v h → u ≡ v
+ends-same t none a b = a ∙ sym b
+ends-same t (some L) a b = a .laid ∙ sym (b .laid)
+
+pub run-fixed : (input out : Bytes) {t u v : Tables} {o p : Bytes} {r q : Ran} → Replays input t u out o r → Replays input t v out p q → (u ≡ v) × (o ≡ p) × (r ≡ q)
+run-fixed input out {t} a b =
+    let wrote = a .lines .count ∙ sym (b .lines .count) in
+    let tally = a .tally ∙ sym (b .tally) in
+    (ends-same t (whole (sized t) input .held) (a .tables) (b .tables), a .lines .bytes ∙ sym (b .lines .bytes), λ i. record { tally = tally i; wrote = wrote i })

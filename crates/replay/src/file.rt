@@ -1,4 +1,5 @@
 // The whole run.
+ghost use Rattle.io.specs.Counts.{Counts};
 ghost use Rattle.tables.specs.Tables.{tables};
 ghost use Rattle.replay.specs.Run.{Replays};
 ghost use Rattle.replay.specs.Steps.{Begins};
@@ -59,6 +60,7 @@ pub fn run(
         (tables (now (book .entry)) (now (keys .entry)) (now (texts .entry)))
         (tables (now (book .exit)) (now (keys .exit)) (now (texts .exit)))
         (now (out .entry)) (now (out .exit)) r ⌝ }
+    ensures { λ r. ⌜ Counts (r .wrote) (now (out .exit)) ⌝ }
 {
     let mut p = first(input, out);
     while p.more {

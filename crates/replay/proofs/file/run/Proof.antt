@@ -4,7 +4,7 @@ use Prim.Native.Nat.{_+_, _-_}
 use lib.ListN.{length}
 use Rattle.lists.specs.Tallies.{bit}
 use Rattle.tables.specs.Tables.{tables}
-use Rattle.replay.proofs.Running.{Since, since-start, since-more, nearer, ran}
+use Rattle.replay.proofs.Running.{Since, since-start, since-more, nearer, ran, wrote-counts}
 use borrow.Author.Needs.{needs}
 use Rattle.replay.proofs.file.run.Statement.{statement}
 use Rattle.replay.proofs.file.run.Tie as tie
@@ -67,7 +67,9 @@ same-length-4 c = search needs
 
 -- src/file.rt:51:1
 returns : tie.Need-returns Inv-loop μ-loop
-returns c = ran ((c .before .before .before .before .before .before .before .before .before .before .before .before .before .before) .args .input .now) _ ((c .before .before .before .before .before .loop-test) .left) ((c .before .before .before .before .before .before .loop) .inv .0 .goes _ _ ((c .before .before .before .before .before .before .before .before .before .first) .ensures .goes _)) ((c .before .before .before .end-line) .ensures) refl
+returns c =
+    let r = ran ((c .before .before .before .before .before .before .before .before .before .before .before .before .before .before) .args .input .now) _ ((c .before .before .before .before .before .loop-test) .left) ((c .before .before .before .before .before .before .loop) .inv .0 .goes _ _ ((c .before .before .before .before .before .before .before .before .before .first) .ensures .goes _)) ((c .before .before .before .end-line) .ensures) refl in
+    (r, wrote-counts _ _ (r .lines))
 
 pub run-spec : {M : Type 1} → statement M
 run-spec =
