@@ -3,6 +3,7 @@ use mathlib.Core.Path.{_∙_, _≡_, subst}
 use Prim.Native.Nat.{_*_, _+_, _<_, _≤_, ℕ}
 use mir.Syntax.{w64}
 use mir.Val.{Fits}
+use lib.Dec.{T, leb, leb→le}
 use lib.ListN.{length, length-map}
 use mathlib.Core.Option.{some}
 use native.Mathlib.Omega.{arith}
@@ -146,14 +147,14 @@ module _ {t : Tables} {n b i : ℕ} (y : Ready t n b i) where
   pub head-in : 0 < length (t .book)
   head-in = omega arith
 
-  pub slot-sum : Fits w64 (log-count t + 833)
-  slot-sum = omega arith
+  pub slot-sum : (k : ℕ) → T (leb k 833) → Fits w64 (log-count t + k)
+  slot-sum k e = omega (arith, leb→le k 833 e)
 
-  pub slot-size : Fits w64 ((log-count t + 833) * 48)
-  slot-size = omega arith
+  pub slot-size : (k : ℕ) → T (leb k 833) → Fits w64 ((log-count t + k) * 48)
+  slot-size k e = omega (arith, leb→le k 833 e)
 
-  pub slot-in : log-count t + 833 < length (t .book)
-  slot-in = omega arith
+  pub slot-in : (k : ℕ) → T (leb k 833) → log-count t + k < length (t .book)
+  slot-in k e = omega (arith, leb→le k 833 e)
 
   pub slot-next : Fits w64 (log-count t + 1)
   slot-next = omega arith

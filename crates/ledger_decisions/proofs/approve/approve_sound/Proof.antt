@@ -180,13 +180,13 @@ store-requires : tie.Need-store-requires
 store-requires c κs = let y = at-hand (c .before .before .before .before .before .before .before .before .before .before .before .before .before .before .before) in record { book-long = y .sized .book-long; keys-long = y .sized .keys-long; number = y .number; place = y .place; waits = y .waits }
 
 add-book : tie.Need-add-book
-add-book c = slot-sum (at-hand (c .before .before .before .before .before .before .before .before .before .before .before .before .before .before .before .before .before .before))
+add-book c = slot-sum (at-hand (c .before .before .before .before .before .before .before .before .before .before .before .before .before .before .before .before .before .before)) _ tt
 
 mul-book : tie.Need-mul-book
-mul-book c = slot-size (at-hand (c .before .before .before .before .before .before .before .before .before .before .before .before .before .before .before .before .before .before))
+mul-book c = slot-size (at-hand (c .before .before .before .before .before .before .before .before .before .before .before .before .before .before .before .before .before .before)) _ tt
 
 slice-set-from-book : tie.Need-slice-set-from-book
-slice-set-from-book c = rw (c .before .before .store .kept .0) (slot-in (at-hand (c .before .before .before .before .before .before .before .before .before .before .before .before .before .before .before .before .before .before)))
+slice-set-from-book c = rw (c .before .before .store .kept .0) (slot-in (at-hand (c .before .before .before .before .before .before .before .before .before .before .before .before .before .before .before .before .before .before)) _ tt)
 
 add-head-2 : tie.Need-add-head-2
 add-head-2 c = slot-next (at-hand (c .before .before .before .before .before .before .before .before .before .before .before .before .before .before .before .before .before .before))
