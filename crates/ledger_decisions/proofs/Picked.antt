@@ -1,6 +1,9 @@
 -- What authentication and decidability say together, and the ways out that approving and rejecting share. Assumes nothing.
 use mathlib.Core.Path.{_∙_, _≡_, subst}
-use Prim.Native.Nat.{_+_, _<_, _≤_, ℕ}
+use Prim.Native.Nat.{_*_, _+_, _<_, _≤_, ℕ}
+use mir.Syntax.{w64}
+use mir.Val.{Fits}
+use lib.Dec.{T, leb, leb→le}
 use lib.ListN.{length, length-map}
 use mathlib.Core.Option.{some}
 use native.Mathlib.Omega.{arith}
@@ -105,6 +108,56 @@ module _ (c : Caller) {t : Tables} {n b i : ℕ} (a : Authenticates t c Approver
         text-in = rw (asked-cell st (w .req-at) 2, asked-cell st (w .req-at) 3) (omega (arith, text-inside st (w .req-at), st .sound .rooms .text));
         slot = rw (logged-is st) (log-has-room L (st .sound) (w .req-at) (w .fresh));
       }
+
+-- ---- that, as the code's sums, sizes and indices ask it: stated here, since beside the code `omega` reads all that the code has told
+module _ {t : Tables} {n b i : ℕ} (y : Ready t n b i) where
+  pub asked-sum : Fits w64 (n + 65)
+  asked-sum = omega arith
+
+  pub asked-size : Fits w64 ((n + 65) * 48)
+  asked-size = omega arith
+
+  pub asked-in : n + 65 < length (t .book)
+  asked-in = omega arith
+
+  pub agent-sum : Fits w64 (n + 64)
+  agent-sum = omega arith
+
+  pub agent-size : Fits w64 ((n + 64) * 32)
+  agent-size = omega arith
+
+  pub agent-in : n + 64 < length (t .keys)
+  agent-in = omega arith
+
+  pub by-sum : Fits w64 (b + 1)
+  by-sum = omega arith
+
+  pub by-size : Fits w64 ((b + 1) * 48)
+  by-size = omega arith
+
+  pub by-in : b + 1 < length (t .book)
+  by-in = omega arith
+
+  pub text-sum : Fits w64 (cell (n + 65) 2 (t .book) + cell (n + 65) 3 (t .book))
+  text-sum = omega arith
+
+  pub text-end : cell (n + 65) 2 (t .book) + cell (n + 65) 3 (t .book) ≤ length (t .texts)
+  text-end = omega arith
+
+  pub head-in : 0 < length (t .book)
+  head-in = omega arith
+
+  pub slot-sum : (k : ℕ) → T (leb k 833) → Fits w64 (log-count t + k)
+  slot-sum k e = omega (arith, leb→le k 833 e)
+
+  pub slot-size : (k : ℕ) → T (leb k 833) → Fits w64 ((log-count t + k) * 48)
+  slot-size k e = omega (arith, leb→le k 833 e)
+
+  pub slot-in : (k : ℕ) → T (leb k 833) → log-count t + k < length (t .book)
+  slot-in k e = omega (arith, leb→le k 833 e)
+
+  pub slot-next : Fits w64 (log-count t + 1)
+  slot-next = omega arith
 
 -- ---- a plan that authenticates, looks whether request n may be decided, and goes on
 module _ {A B : Type 0} (tell : Outcome (Did A) → B) (c : Caller) (n : ℕ) (rest : Ledger → Place → Candidate → Plan (Did A)) where

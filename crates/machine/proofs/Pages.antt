@@ -73,16 +73,26 @@ module _ (L : Ledger) (s : Sound L) where
       let f = first j n ns h in
       ap (map request-of-entry) (f .1) ∙ (λ i. f .3 i ∷ requests-from (suc j) ns (later n ns h) i)
 
-  proofs-from : (j : ℕ) (ns : List ℕ) → Logged L ns → {k : ℕ} {e : PageEntry} → At (entries-from L j ns) k e
-      → (p : Texted ApprovalProof) × (approval L (e .«request_id» .0) ≡ some p) × (e ≡ entry (j + k) (p .is))
-  proofs-from j [] h a = absurd (at-nil a)
-  proofs-from j (n ∷ ns) h {k = zero} {e} a =
+  -- place k of the entries from slot j on is the proof of its request. Its steps stand apart, since antt reads a clause twice
+  abbrev ProofAt : ℕ → ℕ → PageEntry → Type 0
+  ProofAt j k e = (p : Texted ApprovalProof) × (approval L (e .«request_id» .0) ≡ some p) × (e ≡ entry (j + k) (p .is))
+
+  here : (j n : ℕ) (ns : List ℕ) → Logged L (n ∷ ns) → {e : PageEntry} → At (entries-from L j (n ∷ ns)) 0 e → ProofAt j 0 e
+  here j n ns h {e} a =
       let f = first j n ns h in
       let is : entry j (f .0 .is) ≡ e = at-head (rw (f .1) at a) in
       (f .0, rw (← is, f .3) (f .2), rw add-zero (sym is))
-  proofs-from j (n ∷ ns) h {k = suc k} a =
-      let f = first j n ns h in
-      rw (add-suc, ← suc-add) (proofs-from (suc j) ns (later n ns h) (down (rw (f .1) at a)))
+
+  past : (j n : ℕ) (ns : List ℕ) → Logged L (n ∷ ns) → {k : ℕ} {e : PageEntry} → At (entries-from L j (n ∷ ns)) (suc k) e → At (entries-from L (suc j) ns) k e
+  past j n ns h a = down (rw (first j n ns h .1) at a)
+
+  carried : (j k : ℕ) (e : PageEntry) → ProofAt (suc j) k e → ProofAt j (suc k) e
+  carried j k e p = rw (add-suc, ← suc-add) p
+
+  proofs-from : (j : ℕ) (ns : List ℕ) → Logged L ns → {k : ℕ} {e : PageEntry} → At (entries-from L j ns) k e → ProofAt j k e
+  proofs-from j [] h a = absurd (at-nil a)
+  proofs-from j (n ∷ ns) h {k = zero} a = here j n ns h a
+  proofs-from j (n ∷ ns) h {k = suc k} {e} a = carried j k e (proofs-from (suc j) ns (later n ns h) (past j n ns h a))
 
   -- ---- of a page
   on-page : (from limit : ℕ) → Logged L (page L from limit)

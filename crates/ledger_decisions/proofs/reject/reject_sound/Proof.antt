@@ -1,8 +1,8 @@
 -- `ledger_decisions::reject::reject_sound` meets its contract: each answer by the tests before it. Assumes nothing.
 use Prim.Native.Nat.{ℕ}
-use native.Mathlib.Omega.{arith}
+use mathlib.Core.Path.{refl}
 use Rattle.ledger_decisions.proofs.Rejecting.{rejects, self, stranger, undecidable}
-use Rattle.ledger_decisions.proofs.Picked.{Ready, ready}
+use Rattle.ledger_decisions.proofs.Picked.{Ready, agent-in, agent-size, agent-sum, asked-in, asked-size, asked-sum, by-in, by-size, by-sum, ready}
 use Rattle.ledger_keys.specs.Authenticates.{Authenticates}
 use Rattle.ledger_requests.specs.Candidates.{MayDecide}
 use Rattle.records.specs.declared.Role.the-variants.{Approver}
@@ -46,13 +46,13 @@ request-refused-requires : tie.Need-request-refused-requires
 request-refused-requires c κs = search needs
 
 same-length : tie.Need-same-length
-same-length c = search needs
+same-length c = refl
 
 same-length-2 : tie.Need-same-length-2
-same-length-2 c = search needs
+same-length-2 c = refl
 
 same-length-3 : tie.Need-same-length-3
-same-length-3 c = search needs
+same-length-3 c = refl
 
 returns : tie.Need-returns
 returns c = let a = c .before .before .before .before .before .before .before .before .before .args in rw (c .request-refused .ensures) (stranger (a .caller) (a .request) (a .time) (rw (c .before .before .why .given .1) at (c .before .before .before .before .authenticate .ensures)))
@@ -70,25 +70,25 @@ request-refused-requires-2 : tie.Need-request-refused-requires-2
 request-refused-requires-2 c κs = search needs
 
 same-length-4 : tie.Need-same-length-4
-same-length-4 c = search needs
+same-length-4 c = refl
 
 same-length-5 : tie.Need-same-length-5
-same-length-5 c = search needs
+same-length-5 c = refl
 
 same-length-6 : tie.Need-same-length-6
-same-length-6 c = search needs
+same-length-6 c = refl
 
 returns-2 : tie.Need-returns-2
 returns-2 c = let a = c .before .before .before .before .before .before .before .before .before .before .before .before .before .before .before .before .args in rw (c .request-refused2 .ensures) (undecidable (a .caller) (a .request) (a .time) (rw (c .before .before .before .before .before .before .before .before .before .by .given .1) at (c .before .before .before .before .before .before .before .before .before .before .before .authenticate .ensures)) (rw (c .before .before .why2 .given .1) at (c .before .before .before .before .decidable-request .ensures)))
 
 add-asked : tie.Need-add-asked
-add-asked c = let y = at-hand (c .before) in omega arith
+add-asked c = asked-sum (at-hand (c .before))
 
 mul-asked : tie.Need-mul-asked
-mul-asked c = let y = at-hand (c .before) in omega arith
+mul-asked c = asked-size (at-hand (c .before))
 
 slice-copy-out-asked : tie.Need-slice-copy-out-asked
-slice-copy-out-asked c = let y = at-hand (c .before) in omega arith
+slice-copy-out-asked c = asked-in (at-hand (c .before))
 
 array-read-if1 : tie.Need-array-read-if1
 array-read-if1 c = search needs
@@ -97,37 +97,37 @@ request-refused-requires-3 : tie.Need-request-refused-requires-3
 request-refused-requires-3 c κs = search needs
 
 same-length-7 : tie.Need-same-length-7
-same-length-7 c = search needs
+same-length-7 c = refl
 
 same-length-8 : tie.Need-same-length-8
-same-length-8 c = search needs
+same-length-8 c = refl
 
 same-length-9 : tie.Need-same-length-9
-same-length-9 c = search needs
+same-length-9 c = refl
 
 returns-3 : tie.Need-returns-3
 returns-3 c = let a = c .before .before .before .before .before .before .before .before .before .before .before .before .before .before .before .before .before .before .before .args in rw (c .request-refused3 .ensures) (self (a .caller) (a .request) (a .time) (authed (c .before .before .before .before .before)) (chosen (c .before .before .before .before .before)) (c .before .if1 .taken))
 
 add-t35 : tie.Need-add-t35
-add-t35 c = let y = at-hand (c .before .before .before .before .before) in omega arith
+add-t35 c = by-sum (at-hand (c .before .before .before .before .before))
 
 mul-t36 : tie.Need-mul-t36
-mul-t36 c = let y = at-hand (c .before .before .before .before .before) in omega arith
+mul-t36 c = by-size (at-hand (c .before .before .before .before .before))
 
 index-1-t41 : tie.Need-index-1-t41
-index-1-t41 c = let y = at-hand (c .before .before .before .before .before) in omega arith
+index-1-t41 c = by-in (at-hand (c .before .before .before .before .before))
 
 index-2-t41 : tie.Need-index-2-t41
 index-2-t41 c = search needs
 
 add-request-of : tie.Need-add-request-of
-add-request-of c = let y = at-hand (c .before .before .before .before .before .before) in omega arith
+add-request-of c = agent-sum (at-hand (c .before .before .before .before .before .before))
 
 mul-request-of : tie.Need-mul-request-of
-mul-request-of c = let y = at-hand (c .before .before .before .before .before .before) in omega arith
+mul-request-of c = agent-size (at-hand (c .before .before .before .before .before .before))
 
 slice-copy-out-request-of : tie.Need-slice-copy-out-request-of
-slice-copy-out-request-of c = let y = at-hand (c .before .before .before .before .before .before) in omega arith
+slice-copy-out-request-of c = agent-in (at-hand (c .before .before .before .before .before .before))
 
 request-of-requires : tie.Need-request-of-requires
 request-of-requires c κs = search needs
@@ -136,13 +136,13 @@ store-requires : tie.Need-store-requires
 store-requires c κs = let y = at-hand (c .before .before .before .before .before .before .before .before .before .before) in record { book-long = y .sized .book-long; keys-long = y .sized .keys-long; number = y .number; place = y .place; waits = y .waits }
 
 same-length-10 : tie.Need-same-length-10
-same-length-10 c = search needs
+same-length-10 c = c .before .before .store .kept .0
 
 same-length-11 : tie.Need-same-length-11
-same-length-11 c = search needs
+same-length-11 c = c .before .before .store .kept .1 .0
 
 same-length-12 : tie.Need-same-length-12
-same-length-12 c = search needs
+same-length-12 c = refl
 
 returns-4 : tie.Need-returns-4
 returns-4 c = let a = c .before .before .before .before .before .before .before .before .before .before .before .before .before .before .before .before .before .before .before .before .before .before .before .before .before .before .before .args in rw (c .before .before .before .before .before .request-of .ensures) (rejects (a .caller) (a .request) (a .time) (authed (c .before .before .before .before .before .before .before .before .before .before .before .before .before)) (chosen (c .before .before .before .before .before .before .before .before .before .before .before .before .before)) (c .before .before .before .before .before .before .before .before .before .if1 .left) (c .before .before .store .ensures .0) (c .before .before .store .ensures .1))

@@ -1,6 +1,7 @@
 -- `soundness::regions::blank` meets its contract. A part of `Blank` for each test. Assumes nothing.
 use borrow.Author.Needs.{needs}
 use Rattle.ids.proofs.Flags.{confirmed, decides-via, fails, refuted}
+use Rattle.soundness.proofs.Grouped.{reaches}
 use Rattle.soundness.proofs.regions.blank.Statement.{statement}
 use Rattle.soundness.proofs.regions.blank.Tie as tie
 
@@ -20,7 +21,7 @@ part-zero-rows-start : tie.Need-part-zero-rows-start
 part-zero-rows-start c = search needs
 
 part-zero-rows-end : tie.Need-part-zero-rows-end
-part-zero-rows-end c = search needs
+part-zero-rows-end c = reaches ((c .before .before) .pre .book-long) tt
 
 zero-rows-requires : tie.Need-zero-rows-requires
 zero-rows-requires c κs = search needs
@@ -35,7 +36,7 @@ part-zero-rows-start-2 : tie.Need-part-zero-rows-start-2
 part-zero-rows-start-2 c = search needs
 
 part-zero-rows-end-2 : tie.Need-part-zero-rows-end-2
-part-zero-rows-end-2 c = search needs
+part-zero-rows-end-2 c = reaches ((c .before .before .before .before .before) .pre .book-long) tt
 
 zero-rows-requires-2 : tie.Need-zero-rows-requires-2
 zero-rows-requires-2 c κs = search needs
@@ -50,7 +51,7 @@ part-zero-rows-start-3 : tie.Need-part-zero-rows-start-3
 part-zero-rows-start-3 c = search needs
 
 part-zero-rows-end-3 : tie.Need-part-zero-rows-end-3
-part-zero-rows-end-3 c = search needs
+part-zero-rows-end-3 c = reaches ((c .before .before .before .before .before .before .before .before) .pre .book-long) tt
 
 zero-rows-requires-3 : tie.Need-zero-rows-requires-3
 zero-rows-requires-3 c κs = search needs
@@ -65,7 +66,7 @@ part-zero-rows-start-4 : tie.Need-part-zero-rows-start-4
 part-zero-rows-start-4 c = search needs
 
 part-zero-rows-end-4 : tie.Need-part-zero-rows-end-4
-part-zero-rows-end-4 c = search needs
+part-zero-rows-end-4 c = reaches ((c .before .before .before .before .before .before .before .before .before .before .before) .pre .book-long) tt
 
 array-read-zero-rows : tie.Need-array-read-zero-rows
 array-read-zero-rows c = search needs
@@ -83,7 +84,7 @@ part-zero-rows-start-5 : tie.Need-part-zero-rows-start-5
 part-zero-rows-start-5 c = search needs
 
 part-zero-rows-end-5 : tie.Need-part-zero-rows-end-5
-part-zero-rows-end-5 c = search needs
+part-zero-rows-end-5 c = reaches ((c .before .before .before .before .before .before .before .before .before .before .before .before .before .before) .pre .book-long) tt
 
 array-read-zero-rows-2 : tie.Need-array-read-zero-rows-2
 array-read-zero-rows-2 c = search needs
@@ -101,7 +102,7 @@ part-zero-keys-start : tie.Need-part-zero-keys-start
 part-zero-keys-start c = search needs
 
 part-zero-keys-end : tie.Need-part-zero-keys-end
-part-zero-keys-end c = search needs
+part-zero-keys-end c = reaches ((c .before .before .before .before .before .before .before .before .before .before .before .before .before .before .before .before .before) .pre .keys-long) tt
 
 zero-keys-requires : tie.Need-zero-keys-requires
 zero-keys-requires c κs = search needs
@@ -116,7 +117,7 @@ part-zero-keys-start-2 : tie.Need-part-zero-keys-start-2
 part-zero-keys-start-2 c = search needs
 
 part-zero-keys-end-2 : tie.Need-part-zero-keys-end-2
-part-zero-keys-end-2 c = search needs
+part-zero-keys-end-2 c = reaches ((c .before .before .before .before .before .before .before .before .before .before .before .before .before .before .before .before .before .before .before .before) .pre .keys-long) tt
 
 zero-keys-requires-2 : tie.Need-zero-keys-requires-2
 zero-keys-requires-2 c κs = search needs
@@ -131,7 +132,7 @@ part-zero-keys-start-3 : tie.Need-part-zero-keys-start-3
 part-zero-keys-start-3 c = search needs
 
 part-zero-keys-end-3 : tie.Need-part-zero-keys-end-3
-part-zero-keys-end-3 c = search needs
+part-zero-keys-end-3 c = reaches ((c .before .before .before .before .before .before .before .before .before .before .before .before .before .before .before .before .before .before .before .before .before .before .before) .pre .keys-long) tt
 
 zero-keys-requires-3 : tie.Need-zero-keys-requires-3
 zero-keys-requires-3 c κs = search needs

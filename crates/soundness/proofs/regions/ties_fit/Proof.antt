@@ -1,9 +1,8 @@
 -- `soundness::regions::ties_fit` meets its contract. A part of `TiesFit` for each test. Assumes nothing.
 use borrow.Author.Needs.{needs}
 use borrow.Author.Tests.{not-false}
-use native.Mathlib.Omega.{arith}
 use Rattle.ids.proofs.Flags.{confirmed, decides-via, fails, refuted}
-use Rattle.soundness.proofs.Grouped.{numbered-keys, numbered-requests}
+use Rattle.soundness.proofs.Grouped.{all-revoked, in-asked, in-decided, in-held, in-holders, in-use, numbered-keys, numbered-requests, reaches}
 use Rattle.soundness.proofs.regions.ties_fit.Statement.{statement}
 use Rattle.soundness.proofs.regions.ties_fit.Tie as tie
 
@@ -23,7 +22,7 @@ part-holders-start : tie.Need-part-holders-start
 part-holders-start c = search needs
 
 part-holders-end : tie.Need-part-holders-end
-part-holders-end c = search needs
+part-holders-end c = reaches ((c .before) .pre .0 .book-long) tt
 
 sub-asked : tie.Need-sub-asked
 sub-asked c = search needs
@@ -32,7 +31,7 @@ part-asked-start : tie.Need-part-asked-start
 part-asked-start c = search needs
 
 part-asked-end : tie.Need-part-asked-end
-part-asked-end c = search needs
+part-asked-end c = reaches ((c .before .before) .pre .0 .book-long) tt
 
 sub-held : tie.Need-sub-held
 sub-held c = search needs
@@ -41,10 +40,10 @@ part-held-start : tie.Need-part-held-start
 part-held-start c = search needs
 
 part-held-end : tie.Need-part-held-end
-part-held-end c = search needs
+part-held-end c = reaches ((c .before .before .before) .pre .0 .keys-long) tt
 
 distinct-requires : tie.Need-distinct-requires
-distinct-requires c κs = search needs
+distinct-requires c κs = in-held ((c .before .before .before .before) .pre .0)
 
 returns : tie.Need-returns
 returns c = fails (λ f. refuted ((c .before .distinct) .ensures) ((c .if1) .taken) (f .distinct))
@@ -56,13 +55,13 @@ part-registered-start : tie.Need-part-registered-start
 part-registered-start c = search needs
 
 part-registered-end : tie.Need-part-registered-end
-part-registered-end c = search needs
+part-registered-end c = reaches ((c .before .before .before .before .before .before) .pre .0 .book-long) tt
 
 array-read-registered : tie.Need-array-read-registered
 array-read-registered c = search needs
 
 registered-requires : tie.Need-registered-requires
-registered-requires c κs = let p = (c .before .before .before .before .before .before .before) .pre in (omega (arith, p .0 .head .keys), omega arith, omega (arith, p .0 .head .made), numbered-keys (p .0) (p .1))
+registered-requires c κs = let p = (c .before .before .before .before .before .before .before) .pre in (in-holders (p .0), all-revoked (p .0), p .0 .head .made, numbered-keys (p .0) (p .1))
 
 returns-2 : tie.Need-returns-2
 returns-2 c = fails (λ f. refuted ((c .before .before .registered) .ensures .decides) ((c .if2) .taken) (f .registered))
@@ -74,14 +73,10 @@ part-lived-start : tie.Need-part-lived-start
 part-lived-start c = search needs
 
 part-lived-end : tie.Need-part-lived-end
-part-lived-end c = search needs
+part-lived-end c = reaches ((c .before .before .before .before .before .before .before .before .before .before .before .before) .pre .0 .keys-long) tt
 
 lived-requires : tie.Need-lived-requires
-lived-requires c κs = let p = (c .before .before .before .before .before .before .before .before .before .before .before .before .before) .pre in (
-  record { rows = omega (arith, p .0 .head .keys); keys = omega (arith, p .0 .head .keys); requests = omega (arith, p .0 .head .requests); signers = omega (arith, p .0 .head .requests) },
-  numbered-requests (p .0) (p .1),
-  (c .before .before .before .before .before .registered) .ensures .noted (not-false _ ((c .before .before .before .if2) .left)),
-)
+lived-requires c κs = let p = (c .before .before .before .before .before .before .before .before .before .before .before .before .before) .pre in (in-use (p .0), numbered-requests (p .0) (p .1), ((c .before .before .before .before .before .registered) .ensures .noted (not-false _ ((c .before .before .before .if2) .left))))
 
 returns-3 : tie.Need-returns-3
 returns-3 c = fails (λ f. refuted ((c .before .lived) .ensures) ((c .if3) .taken) (f .lived))
@@ -93,10 +88,10 @@ part-waits-start : tie.Need-part-waits-start
 part-waits-start c = search needs
 
 part-waits-end : tie.Need-part-waits-end
-part-waits-end c = search needs
+part-waits-end c = reaches ((c .before .before .before .before .before .before .before .before .before .before .before .before .before .before .before) .pre .0 .book-long) tt
 
 waits-requires : tie.Need-waits-requires
-waits-requires c κs = let p = (c .before .before .before .before .before .before .before .before .before .before .before .before .before .before .before .before) .pre in (omega (arith, p .0 .head .keys), omega (arith, p .0 .head .requests), omega (arith, p .0 .head .requests), numbered-keys (p .0) (p .1), numbered-requests (p .0) (p .1))
+waits-requires c κs = let p = (c .before .before .before .before .before .before .before .before .before .before .before .before .before .before .before .before) .pre in (in-holders (p .0), in-asked (p .0), in-decided (p .0), numbered-keys (p .0) (p .1), numbered-requests (p .0) (p .1))
 
 returns-4 : tie.Need-returns-4
 returns-4 c = decides-via
