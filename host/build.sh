@@ -4,6 +4,7 @@
 # itself in tables. `host/build.sh tests` runs the host's own tests. The archive is x86-64: on aarch64 Rust and C are cross-built with
 # Debian's rustc and emulated. What is missing is installed by its Debian name; where that can't be done, one line says so.
 set -u
+from=$PWD
 here=$(cd "$(dirname "$0")" && pwd) || exit 1
 root=$(dirname "$here")
 archives=$root/target/staticlib
@@ -65,4 +66,5 @@ if [ -n "$port" ]; then
     $run target/smoke || fail "the C program failed"
 fi
 build || fail "the host can't be built"
-exec $run "$built" "$@"
+[ "$1" = sample ] && cd "$from" # its directory is named from where the caller stands
+exec $run "$here/$built" "$@"

@@ -83,83 +83,104 @@ pub fn open_and_tail() -> impl Iterator<Item = Vec<u8>> {
     up_to_two_bytes().map(move |tail| [&open[..], &tail].concat())
 }
 
-// A command as given: the first in a file, or after an open.
-fn after_open(first: bool, last: Vec<u8>) -> Vec<u8> {
-    let open = Command::Open { owner: 7 }.bytes();
-    match first {
-        true => last,
-        false => [open, last].concat(),
+// An open stands first in a file, any other command after one; `last` is such a command's bytes, changed or not.
+fn after_open(command: &Command, last: Vec<u8>) -> Vec<u8> {
+    match command {
+        Command::Open { .. } => last,
+        _ => [Command::Open { owner: 7 }.bytes(), last].concat(),
     }
 }
 
-// Every tag in place of each command's own, of each of its fields', and after its last field.
+// A tag in place of the command's own, of each of its fields', and after its last field.
+pub fn tagged(command: &Command, tag: u8) -> Vec<Vec<u8>> {
+    let fields = command.fields();
+    let mut out = vec![after_open(command, field(tag, &fields.concat()))];
+    for at in 0..=fields.len() {
+        let mut fields = fields.clone();
+        fields.resize(fields.len().max(at + 1), field(0, &[]));
+        fields[at][0] = tag;
+        let last = field(command.kind(), &fields.concat());
+        out.push(after_open(command, last));
+    }
+    out
+}
+
 pub fn every_tag() -> Vec<Vec<u8>> {
-    let commands = one_of_each();
     let mut out = Vec::new();
-    for (i, command) in commands.iter().enumerate() {
-        for tag in 0..=255 {
-            let fields = command.fields();
-            out.push(after_open(i == 0, field(tag, &fields.concat())));
-            for at in 0..=fields.len() {
-                let mut fields = fields.clone();
-                fields.resize(fields.len().max(at + 1), field(0, &[]));
-                fields[at][0] = tag;
-                let last = field(command.kind(), &fields.concat());
-                out.push(after_open(i == 0, last));
-            }
-        }
+    for command in one_of_each() {
+        out.extend((0..=255).flat_map(|tag| tagged(&command, tag)));
     }
     out
 }
 
-// Every length up to 40 of each field's value, the outer length fitting or not; and every value of a role.
-pub fn every_length() -> Vec<Vec<u8>> {
-    let commands = one_of_each();
-    let mut out = Vec::new();
-    for (i, command) in commands.iter().enumerate() {
-        let fields = command.fields();
-        for at in 0..fields.len() {
-            for length in 0..=40 {
-                let mut value = fields[at][3..].to_vec();
-                value.resize(length, 1);
-                let mut fitting = fields.clone();
-                fitting[at] = field(fields[at][0], &value);
-                let mut claimed = fields.clone();
-                claimed[at][2] = length as u8;
-                for changed in [fitting, claimed] {
-                    let last = field(command.kind(), &changed.concat());
-                    out.push(after_open(i == 0, last));
-                }
-            }
-        }
-    }
-    for role in 0..=255 {
-        let mut last = commands[1].bytes();
+// Another length of one field's value, the outer length fitting or not.
+pub fn resized(command: &Command, at: usize, length: u8) -> [Vec<u8>; 2] {
+    let fields = command.fields();
+    let mut value = fields[at][3..].to_vec();
+    value.resize(length as usize, 1);
+    let mut fitting = fields.clone();
+    fitting[at] = field(fields[at][0], &value);
+    let mut claimed = fields;
+    claimed[at][2] = length;
+    [fitting, claimed].map(|changed| {
+        let last = field(command.kind(), &changed.concat());
+        after_open(command, last)
+    })
+}
+
+// The command with its first fields alone: none, one, up to all but the last.
+pub fn unfinished(command: &Command) -> Vec<Vec<u8>> {
+    let fields = command.fields();
+    let first = |n: usize| after_open(command, field(command.kind(), &fields[..n].concat()));
+    (0..fields.len()).map(first).collect()
+}
+
+pub fn every_role() -> Vec<Vec<u8>> {
+    let command = &one_of_each()[1];
+    let with = |role| {
+        let mut last = command.bytes();
         *last.last_mut().expect("a role") = role;
-        out.push(after_open(false, last));
+        after_open(command, last)
+    };
+    (0..=255).map(with).collect()
+}
+
+// Every length up to 40 of each field's value; and every value of a role.
+pub fn every_length() -> Vec<Vec<u8>> {
+    let mut out = Vec::new();
+    for command in one_of_each() {
+        for at in 0..command.fields().len() {
+            out.extend((0..=40).flat_map(|length| resized(&command, at, length)));
+        }
     }
+    out.extend(every_role());
     out
 }
 
-// The file cut at each place, and with each byte changed in a few ways.
-pub fn every_cut_and_change() -> Vec<Vec<u8>> {
+// The file cut at each place.
+pub fn every_cut() -> Vec<Vec<u8>> {
     let whole = file_of(&one_of_each());
-    let mut out = Vec::new();
-    for at in 0..whole.len() {
-        out.push(whole[..at].to_vec());
-        for byte in [
-            0,
-            0xFF,
-            whole[at] ^ 1,
-            whole[at] ^ 0x80,
-            whole[at].wrapping_add(1),
-        ] {
-            let mut changed = whole.clone();
-            changed[at] = byte;
-            out.push(changed);
-        }
-    }
-    out
+    (0..whole.len()).map(|at| whole[..at].to_vec()).collect()
+}
+
+// The file with the byte at one place changed in a few ways.
+pub fn changed(at: usize) -> Vec<Vec<u8>> {
+    let whole = file_of(&one_of_each());
+    let old = whole[at];
+    let with = |byte| {
+        let mut out = whole.clone();
+        out[at] = byte;
+        out
+    };
+    [0, 0xFF, old ^ 1, old ^ 0x80, old.wrapping_add(1)]
+        .map(with)
+        .to_vec()
+}
+
+pub fn every_cut_and_change() -> Vec<Vec<u8>> {
+    let cuts = every_cut();
+    let changes: Vec<Vec<u8>> = (0..cuts.len()).flat_map(changed).collect();
+    [cuts, changes].concat()
 }
 
 // Files of just the longest length and of one byte more, and texts of the longest and of too great a length.

@@ -23,6 +23,7 @@ mod records;
 mod replay;
 mod sample;
 mod sound;
+mod stored;
 mod subject;
 mod suite;
 #[cfg(test)]
@@ -59,13 +60,19 @@ fn run(words: &[String]) -> Result<bool, String> {
             Ok(true)
         }
         Some((&"sample", &[])) => done(sample::print(&mut std::io::stdout().lock())),
-        Some((&"sample", &["--directory", path])) => done(sample::write(Path::new(path))),
+        Some((&"sample", &["--directory", path])) => store(Path::new(path)),
         _ => Err(USAGE.to_string()),
     }
 }
 
 fn done(result: std::io::Result<()>) -> Result<bool, String> {
     result.map(|()| true).map_err(|e| e.to_string())
+}
+
+fn store(directory: &Path) -> Result<bool, String> {
+    let reached = stored::write(directory).map_err(|e| e.to_string())?;
+    reached.print();
+    Ok(reached.all())
 }
 
 fn compare(options: &[&str]) -> Result<bool, String> {

@@ -53,12 +53,16 @@ pub fn signed(account: Account, signer_key: Key) -> Caller {
     }
 }
 
-fn request(account: Account, key: Key, text: &[u8]) -> Command {
+pub fn request_by(caller: Caller, text: &[u8]) -> Command {
     Command::Request {
-        caller: signed(account, key),
+        caller,
         text: text.to_vec(),
         now: NOON,
     }
+}
+
+fn request(account: Account, key: Key, text: &[u8]) -> Command {
+    request_by(signed(account, key), text)
 }
 
 fn approve(account: Account, key: Key, request: RequestId, text: &[u8]) -> Command {
@@ -76,6 +80,22 @@ fn reject(account: Account, key: Key, request: RequestId) -> Command {
         request,
         now: NOON,
     }
+}
+
+// An approval and a rejection.
+pub fn decisions_by(caller: Caller, request: RequestId) -> [Command; 2] {
+    let approval = Command::Approve {
+        caller: caller.clone(),
+        request,
+        text: MAXRATE.to_vec(),
+        now: NOON,
+    };
+    let rejection = Command::Reject {
+        caller,
+        request,
+        now: NOON,
+    };
+    [approval, rejection]
 }
 
 fn status(request: RequestId) -> Command {
@@ -114,7 +134,7 @@ fn sixteen(text: &[u8]) -> Vec<Command> {
     and(cast(), vec![request(1, A, text); 16])
 }
 
-fn logged(length: u64) -> Vec<Command> {
+pub fn logged(length: u64) -> Vec<Command> {
     let each = |n| [request(1, A, MAXRATE), approve(2, B, n, MAXRATE)];
     and(cast(), (0..length).flat_map(each))
 }
