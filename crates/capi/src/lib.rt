@@ -1,5 +1,6 @@
 // The ledger for programs in C and Rust: entry points on numbers, rows and bytes. Each answers for any arguments and any lent tables. For `host/`.
 mod changes;
+mod files;
 mod outcomes;
 mod proof;
 mod reads;
@@ -10,6 +11,7 @@ pub use changes::brasstally_open;
 pub use changes::brasstally_reject;
 pub use changes::brasstally_request;
 pub use changes::brasstally_revoke;
+pub use files::brasstally_replay;
 pub use outcomes::Outcome;
 pub use proof::brasstally_proof;
 pub use proof::brasstally_revocations;
