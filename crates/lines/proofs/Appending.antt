@@ -4,7 +4,7 @@ use mathlib.Core.Logic.{_⊎_, inl, inr}
 use mathlib.Core.List.{[], _++_, append-assoc, append-nil}
 use Prim.Native.Nat.{ℕ, _+_, _-_, _≤_, _<_}
 use native.Mathlib.Omega.{arith}
-use lib.ListN.{length, take, drop, length-append, length-take, length-drop, drop-of-length-le}
+use lib.ListN.{length, take, drop, length-append, length-drop, drop-of-length-le}
 use lib.Seq.{paste, take-all, take-take, drop-drop, length-take-le, take-append-le, take-append-add, take-append-seam, drop-append-add}
 use Rattle.ids.proofs.Flags.{lt-or-ge}
 use Rattle.machine.specs.Types.{Bytes}
@@ -29,9 +29,6 @@ pub said-by : {bytes text out o : Bytes} {len i j : ℕ} → Says bytes len text
 said-by s a = said-as (s .says) a
 
 -- ---- where the text ends
-pub wrote-within : {was text out : Bytes} {n : ℕ} → Wrote was text out n → n ≤ length was
-wrote-within {was} {text} w = omega (arith, w .count, length-take (length was) text)
-
 module _ (was text out : Bytes) (n : ℕ) (w : Wrote was text out n) where
   short : length text ≤ length was → (out ≡ text ++ drop (length text) was) × (n ≡ length text)
   short h =

@@ -1,6 +1,5 @@
 -- What a reply of code tells; a page's entries are lent beside it, as rows of plain numbers. Assumes nothing.
 use Prim.Native.Nat.{ℕ}
-use mathlib.Core.Bool.{Bool, true, false}
 use mathlib.Core.List.{List, [], _∷_, map}
 use lib.ListN.{take, getD}
 use Rattle.lines.specs.declared.reply.Reply.{Reply}
@@ -17,9 +16,3 @@ told (Reply.Number n) rows = accepted (n ∷ [])
 told (Reply.Page k) rows = accepted (k ∷ map request-in (take k rows))
 told (Reply.Status s) rows = standing s
 told (Reply.Refused e) rows = refused e
-
--- whether a command was accepted
-abbrev pub is-accepted : Told → Bool
-is-accepted (accepted ns) = true
-is-accepted (standing s) = true
-is-accepted (refused e) = false
