@@ -57,7 +57,7 @@ fn answer(
 }
 
 // One step of a run that goes on.
-pub fn step(
+pub fn stepped(
     book: &mut [[u64; 6]],
     keys: &mut [[u8; 32]],
     texts: &mut [u8],

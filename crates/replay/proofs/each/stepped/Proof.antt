@@ -1,13 +1,13 @@
--- `replay::each::step` meets its contract, by cases of what is read. Assumes nothing.
+-- `replay::each::stepped` meets its contract, by cases of what is read. Assumes nothing.
 use mathlib.Core.Path.{_∙_}
 use Prim.Native.Nat.{_+_}
 use lib.ListN.{length}
 use Rattle.replay.proofs.Running.{inside, page-counts, went-on, ended-there, fault-there}
 use borrow.Author.Needs.{needs}
-use Rattle.replay.proofs.each.step.Statement.{statement}
-use Rattle.replay.proofs.each.step.Tie as tie
-use Rattle.replay.proofs.each.step.Reads as reads
-use Rattle.replay.proofs.each.step.Lts as lts
+use Rattle.replay.proofs.each.stepped.Statement.{statement}
+use Rattle.replay.proofs.each.stepped.Tie as tie
+use Rattle.replay.proofs.each.stepped.Reads as reads
+use Rattle.replay.proofs.each.stepped.Lts as lts
 use Rattle.commands.proofs.read_command.Reads as read-command-reads
 use Rattle.lines.proofs.stopped_line.Reads as stopped-line-reads
 use Rattle.lines.proofs.counted.Reads as counted-reads
@@ -78,8 +78,8 @@ same-length-5 c = search needs
 returns-3 : tie.Need-returns-3
 returns-3 c = let t = rw ((c .before .before .before .before .before .step2) .given .1) at ((c .before .before .before .before .before .before .before .read-command) .ensures) in fault-there ((c .before .before .before .before .before .before .before .before .before .before .before) .args .input .now) _ (t .0) ((c .before .before .stopped-line) .ensures)
 
-pub step-spec : {M : Type 1} → statement M
-step-spec =
+pub stepped-spec : {M : Type 1} → statement M
+stepped-spec =
     tie.close
     (tie.spec
     read-command-requires
