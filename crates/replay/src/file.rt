@@ -4,7 +4,7 @@ ghost use Rattle.tables.specs.Tables.{tables};
 ghost use Rattle.replay.specs.Run.{Replays};
 ghost use Rattle.replay.specs.Steps.{Begins};
 use crate::each::Progress;
-use crate::each::stepped;
+use crate::lent::advance;
 use commands::too_long;
 use fields::Fault;
 use fields::Stop;
@@ -64,7 +64,7 @@ pub fn run(
 {
     let mut p = first(input, out);
     while p.more {
-        p = stepped(book, keys, texts, input, out, p.tally, p.at, p.wrote);
+        p = advance(book, keys, texts, input, out, p);
     }
     let wrote = end_line(out, p.wrote, p.tally);
     let tally = p.tally;

@@ -11,7 +11,7 @@ use Rattle.replay.proofs.file.run.Tie as tie
 use Rattle.replay.proofs.file.run.Reads as reads
 use Rattle.replay.proofs.file.run.Lts as lts
 use Rattle.lines.proofs.end_line.Reads as end-line-reads
-use Rattle.replay.proofs.each.stepped.Reads as stepped-reads
+use Rattle.replay.proofs.lent.advance.Reads as advance-reads
 use Rattle.replay.proofs.file.first.Reads as first-reads
 
 abbrev Inv-loop : tie.InvT-loop
@@ -34,16 +34,16 @@ loop-holds : tie.Need-loop-holds Inv-loop μ-loop
 loop-holds c = (since-start _ ((c .before .before .first) .ensures .onward), refl, refl, refl, refl)
 
 -- src/file.rt:65:9
-stepped-requires : tie.Need-stepped-requires Inv-loop μ-loop
-stepped-requires c κs = search needs
+advance-requires : tie.Need-advance-requires Inv-loop μ-loop
+advance-requires c κs = search needs
 
 -- src/file.rt:64:5
 loop-less : tie.Need-loop-less Inv-loop μ-loop
-loop-less c = nearer _ ((c .before .before .before .before .before .before .before .before .before .before .before .loop-test) .taken) ((c .before .before .before .before .before .before .before .before .before .before .before .before .loop) .inv .0) ((c .before .before .before .before .before .before .stepped) .ensures)
+loop-less c = nearer _ ((c .before .before .before .before .before .before .before .before .before .before .before .loop-test) .taken) ((c .before .before .before .before .before .before .before .before .before .before .before .before .loop) .inv .0) ((c .before .before .before .before .before .before .advance) .ensures)
 
 -- src/file.rt:64:5
 loop-again : tie.Need-loop-again Inv-loop μ-loop
-loop-again c = (since-more _ ((c .before .before .before .before .before .before .before .before .before .before .before .loop-test) .taken) ((c .before .before .before .before .before .before .before .before .before .before .before .before .loop) .inv .0) ((c .before .before .before .before .before .before .stepped) .ensures), search needs, search needs, search needs, search needs)
+loop-again c = (since-more _ ((c .before .before .before .before .before .before .before .before .before .before .before .loop-test) .taken) ((c .before .before .before .before .before .before .before .before .before .before .before .before .loop) .inv .0) ((c .before .before .before .before .before .before .advance) .ensures), search needs, search needs, search needs, search needs)
 
 -- src/file.rt:67:9
 end-line-requires : tie.Need-end-line-requires Inv-loop μ-loop
@@ -79,7 +79,7 @@ run-spec =
     μ-loop
     first-requires
     loop-holds
-    stepped-requires
+    advance-requires
     loop-less
     loop-again
     end-line-requires
