@@ -2,7 +2,7 @@
 use mathlib.Core.Path.{_≡_, refl, sym, ap, subst, _∙_}
 use mathlib.Core.Bool.{Bool, true, false, cond}
 use mathlib.Core.Option.{Option, none, some}
-use mathlib.Core.List.{List, [], _∷_, _++_, map}
+use mathlib.Core.List.{List, [], _∷_, _++_, map, map-append}
 use Prim.Native.Nat.{ℕ, _+_, _-_}
 use native.Mathlib.Omega.{arith}
 use lib.ListN.{length, take, drop, length-map}
@@ -26,8 +26,8 @@ use Rattle.machine.specs.Rooms.{page-limit}
 use Rattle.machine.specs.Told.{Texted}
 use Rattle.machine.specs.Types.{Bytes, Change, Ledger, add, approve, reject, request, revoke}
 use Rattle.tables.specs.Tables.{Stands, Tables}
-use Rattle.answers.specs.Answers.{PageOut, entryRow, paged, proved, registered, requested, status-answer}
-use Rattle.answers.specs.Calls.{add-call, approve-call, change-call, page-call, reject-call, request-call, revoke-call, status-call}
+use Rattle.answers.specs.Answers.{EntriesOut, entered, proved, registered, requested, status-answer}
+use Rattle.answers.specs.Calls.{add-call, approve-call, change-call, entries-call, reject-call, request-call, revoke-call, status-call}
 use Rattle.answers.specs.Does.{Does, Opens}
 use Rattle.answers.specs.declared.Answer.{Answer}
 use Rattle.answers.specs.declared.Paged.{Paged}
@@ -38,7 +38,7 @@ use Rattle.answers.specs.declared.StatusAnswer.{StatusAnswer}
 use Rattle.commands.specs.Answers.{lent}
 use Rattle.commands.specs.Commands.{Command, open-by, change, status-of, page-from}
 use Rattle.lines.specs.Lines.{Told, accepted}
-use Rattle.lines.specs.Replies.{request-in as request-in-row, told}
+use Rattle.lines.specs.Replies.{told}
 use Rattle.lines.specs.declared.reply.Reply.{Reply}
 use Rattle.acts.specs.Acts.{Acts, Replies, Opened, after-of, request-of, told-change, told-of, told-page, told-status}
 use Rattle.acts.specs.Replies.{number-reply, open-reply, page-reply, registered-reply, status-reply}
@@ -62,42 +62,42 @@ outcome-giving f (look {X = X} e o k) = go o (λ x. outcome-giving f (k x))
     go (some x) h = h x
 
 module _ {A B : Type 0} (tell : Outcome (Did A) → B) (give : A → Given) (own : Ledger → Plan (Did A)) (c : Change) (is-step : (L : Ledger) → step L c ≡ outcome (own L >>= giving give))
-    (reply : B → Reply) (is-told : (o : Outcome (Did A)) (rows : List (List ℕ)) → told (reply (tell o)) rows ≡ told-change (given-as give o)) where
+    (reply : B → Reply) (is-told : (o : Outcome (Did A)) (requests : List ℕ) → told (reply (tell o)) requests ≡ told-change (given-as give o)) where
   changes : {t t′ : Tables} {r : B} {q : Reply} → Does (change-call tell own) t t′ r → q ≡ reply r → Replies (change c) t t′ q
   unfolding told-of after-of
-  changes {t′ = t′} d e rows = record {
+  changes {t′ = t′} d e requests = record {
     sound = λ L st.
         let w = d .sound L st in
         let same : left L (outcome (own L)) ≡ left L (step L c) = sym (ap (left L) (is-step L) ∙ left-giving L give (own L)) in
         let as-given : told-change (given-as give (outcome (own L))) ≡ told-change (step L c) = ap told-change (sym (is-step L ∙ outcome-giving give (own L))) in (
-          ap (λ (x : Reply). told x rows) e ∙ ap (λ (x : B). told (reply x) rows) (w .0) ∙ is-told (outcome (own L)) rows ∙ as-given,
+          ap (λ (x : Reply). told x requests) e ∙ ap (λ (x : B). told (reply x) requests) (w .0) ∙ is-told (outcome (own L)) requests ∙ as-given,
           subst (λ (M : Ledger). Stands t′ M) same (w .1),
         );
-    damaged = λ n. let w = d .damaged n in (ap (λ (x : Reply). told x rows) e ∙ ap (λ (x : B). told (reply x) rows) (w .0) ∙ is-told (refused Damaged) rows, w .1);
+    damaged = λ n. let w = d .damaged n in (ap (λ (x : Reply). told x requests) e ∙ ap (λ (x : B). told (reply x) requests) (w .0) ∙ is-told (refused Damaged) requests, w .1);
     known = d .known;
   }
 
-registered-told : (o : Outcome (Did Principal)) (rows : List (List ℕ)) → told (registered-reply (registered o)) rows ≡ told-change (given-as principal o)
-registered-told (refused e) rows = refl
-registered-told (did d) rows = refl
+registered-told : (o : Outcome (Did Principal)) (requests : List ℕ) → told (registered-reply (registered o)) requests ≡ told-change (given-as principal o)
+registered-told (refused e) requests = refl
+registered-told (did d) requests = refl
 
 abbrev request-reply : Requested → Reply
 request-reply g = number-reply (g .answer) (g .request .id .0)
 
-requested-told : (o : Outcome (Did (Texted ActionRequest))) (rows : List (List ℕ)) → told (request-reply (requested o)) rows ≡ told-change (given-as action o)
-requested-told (refused e) rows = refl
-requested-told (did d) rows = refl
+requested-told : (o : Outcome (Did (Texted ActionRequest))) (requests : List ℕ) → told (request-reply (requested o)) requests ≡ told-change (given-as action o)
+requested-told (refused e) requests = refl
+requested-told (did d) requests = refl
 
 abbrev proof-reply : Proved → Reply
 proof-reply g = number-reply (g .answer) (g .proof .«approval_index»)
 
-proved-told : (o : Outcome (Did (Texted ApprovalProof))) (rows : List (List ℕ)) → told (proof-reply (proved o)) rows ≡ told-change (given-as proof o)
-proved-told (refused e) rows = refl
-proved-told (did d) rows = refl
+proved-told : (o : Outcome (Did (Texted ApprovalProof))) (requests : List ℕ) → told (proof-reply (proved o)) requests ≡ told-change (given-as proof o)
+proved-told (refused e) requests = refl
+proved-told (did d) requests = refl
 
-status-told : (o : Outcome RequestStatus) (rows : List (List ℕ)) → told (status-reply (status-answer o)) rows ≡ told-status o
-status-told (refused e) rows = refl
-status-told (did s) rows = refl
+status-told : (o : Outcome RequestStatus) (requests : List ℕ) → told (status-reply (status-answer o)) requests ≡ told-status o
+status-told (refused e) requests = refl
+status-told (did s) requests = refl
 
 module _ {t t′ : Tables} {q : Reply} where
   pub adds : (caller : Account) (key : Bytes) (who : Account) (role : Role) {r : Registered} → Does (add-call caller key who role) t t′ r → q ≡ registered-reply r → Replies (change (add (caller .0) key (who .0) role)) t t′ q
@@ -122,47 +122,44 @@ module _ {t t′ : Tables} {q : Reply} where
 
   -- ---- opening
   pub opens : (owner : ℕ) {r : Answer} → Opens owner t t′ r → q ≡ open-reply r → Replies (open-by owner) t t′ q
-  opens owner d e rows = record {
-    opened-then = λ s. let w = d .opened-then s in (ap (λ (x : Reply). told x rows) e ∙ ap (λ (x : Answer). told (open-reply x) rows) (w .0), w .1);
-    unsized = λ n. let w = d .unsized n in (ap (λ (x : Reply). told x rows) e ∙ ap (λ (x : Answer). told (open-reply x) rows) (w .0), w .1);
+  opens owner d e requests = record {
+    opened-then = λ s. let w = d .opened-then s in (ap (λ (x : Reply). told x requests) e ∙ ap (λ (x : Answer). told (open-reply x) requests) (w .0), w .1);
+    unsized = λ n. let w = d .unsized n in (ap (λ (x : Reply). told x requests) e ∙ ap (λ (x : Answer). told (open-reply x) requests) (w .0), w .1);
   }
 
   -- ---- reads
   pub tells-status : (n : RequestId) {r : StatusAnswer} → Does (status-call n) t t′ r → q ≡ status-reply r → Replies (status-of (n .0)) t t′ q
   unfolding status-call told-of after-of
-  tells-status n d e rows = record {
-    sound = λ L st. let w = d .sound L st in (ap (λ (x : Reply). told x rows) e ∙ ap (λ (x : StatusAnswer). told (status-reply x) rows) (w .0) ∙ status-told (status L (n .0)) rows, w .1);
-    damaged = λ k. let w = d .damaged k in (ap (λ (x : Reply). told x rows) e ∙ ap (λ (x : StatusAnswer). told (status-reply x) rows) (w .0), w .1);
+  tells-status n d e requests = record {
+    sound = λ L st. let w = d .sound L st in (ap (λ (x : Reply). told x requests) e ∙ ap (λ (x : StatusAnswer). told (status-reply x) requests) (w .0) ∙ status-told (status L (n .0)) requests, w .1);
+    damaged = λ k. let w = d .damaged k in (ap (λ (x : Reply). told x requests) e ∙ ap (λ (x : StatusAnswer). told (status-reply x) requests) (w .0), w .1);
     known = d .known;
   }
 
--- a page's rows hold its entries' request numbers
-row-numbers : (es : List PageEntry) → map request-in-row (map entryRow es) ≡ map request-of es
-row-numbers [] = refl
-row-numbers (x ∷ es) = ap (λ (ns : List ℕ). request-of x ∷ ns) (row-numbers es)
+-- a page's answer, and the request numbers of what is lent
+abbrev page-told-as : EntriesOut → Told
+page-told-as o = told (page-reply (o .answer)) (map request-of (o .page))
 
-abbrev page-told-as : PageOut → Told
-page-told-as p = told (page-reply (p .answer)) (p .rows)
-
-page-told : (rows : List (List ℕ)) (o : Outcome (List PageEntry)) → page-told-as (paged rows o) ≡ told-page o
-page-told rows (refused e) = refl
-page-told rows (did es) =
+page-told : (page : List PageEntry) (o : Outcome (List PageEntry)) → page-told-as (entered page o) ≡ told-page o
+page-told page (refused e) = refl
+page-told page (did es) =
     ap (λ (ns : List ℕ). accepted (length es ∷ ns))
-    (ap (map request-in-row) (take-at (map entryRow es) (drop (length es) rows) (length es) (length-map es entryRow)) ∙ row-numbers es)
+    (ap (take (length es)) (map-append request-of es (drop (length es) page)) ∙ take-at (map request-of es) (map request-of (drop (length es) page)) (length es) (length-map es request-of))
 
-pub tells-page : {t t′ : Tables} {q : Reply} (rows : List (List ℕ)) (from limit : ℕ) {r : Paged} {rows′ : List (List ℕ)} → length rows ≡ page-limit
-    → Does (page-call rows from limit) t t′ (record { answer = r; rows = rows′ }) → q ≡ page-reply r → Acts (page-from from limit) t t′ (told q rows′)
-unfolding page-call told-of after-of
-tells-page rows from limit {rows′ = rows′} long d e = record {
+pub tells-page : {t t′ : Tables} {q : Reply} (page : List PageEntry) (from limit : ℕ) {r : Paged} {page′ : List PageEntry} {requests : List ℕ} → length page ≡ page-limit
+    → Does (entries-call page from limit) t t′ (record { answer = r; page = page′ }) → requests ≡ map request-of page′ → q ≡ page-reply r → Acts (page-from from limit) t t′ (told q requests)
+unfolding entries-call told-of after-of
+tells-page page from limit {r} {page′} {requests} long d listed e = record {
   sound = λ L st.
       let w = d .sound L st in (
-        ap (λ (x : Reply). told x rows′) e
+        ap (λ (x : Reply). told x requests) e
+            ∙ ap (told (page-reply r)) listed
             ∙ ap page-told-as (w .0)
-            ∙ page-told rows (outcome (page-into L from limit (length rows)))
+            ∙ page-told page (outcome (page-into L from limit (length page)))
             ∙ ap (λ (k : ℕ). told-page (outcome (page-into L from limit k))) long,
         w .1,
       );
-  damaged = λ k. let w = d .damaged k in (ap (λ (x : Reply). told x rows′) e ∙ ap page-told-as (w .0), w .1);
+  damaged = λ k. let w = d .damaged k in (ap (λ (x : Reply). told x requests) e ∙ ap (told (page-reply r)) listed ∙ ap page-told-as (w .0), w .1);
   known = d .known;
 }
 

@@ -67,9 +67,9 @@ Acts (change c) t t′ w = Does (command-call (change c)) t t′ w
 Acts (status-of n) t t′ w = Does (command-call (status-of n)) t t′ w
 Acts (page-from from limit) t t′ w = Does (command-call (page-from from limit)) t t′ w
 
--- a reply that no page row is needed for
+-- a reply that no request numbers are needed for
 abbrev pub Replies : Command → Tables → Tables → Reply → Type 0
-Replies c t t′ r = (rows : List (List ℕ)) → Acts c t t′ (told r rows)
+Replies c t t′ r = (requests : List ℕ) → Acts c t t′ (told r requests)
 
 -- the text of a command lies in an input of n bytes
 abbrev pub Inside : ℕ → ReadCommand → Type 0

@@ -22,16 +22,16 @@ pub fn act(
     book: &mut [[u64; 6]],
     keys: &mut [[u8; 32]],
     texts: &mut [u8],
-    rows: &mut [[u64; 8]],
+    requests: &mut [u64],
     input: &[u8],
     command: Command,
     key: Key,
 ) -> Reply
     requires { ⌜ Inside (length (now input)) command ⌝ }
-    requires { ⌜ length (now rows) ≡ 100 ⌝ }
+    requires { ⌜ length (now requests) ≡ 100 ⌝ }
     ensures { λ r. ⌜ Acts (meant key (lent (now (input .entry))) command)
         (tables (now (book .entry)) (now (keys .entry)) (now (texts .entry)))
-        (tables (now (book .exit)) (now (keys .exit)) (now (texts .exit))) (told r (now (rows .exit))) ⌝ }
+        (tables (now (book .exit)) (now (keys .exit)) (now (texts .exit))) (told r (now (requests .exit))) ⌝ }
 {
     match command {
         Command::Open(owner) => open_by(book, keys, texts, owner),
@@ -49,6 +49,6 @@ pub fn act(
         }
         Command::Reject(c) => reject_one(book, keys, texts, c, key),
         Command::Status(request) => status_one(book, keys, texts, request),
-        Command::Page(c) => page_one(book, keys, texts, rows, c),
+        Command::Page(c) => page_one(book, keys, texts, requests, c),
     }
 }

@@ -1,12 +1,13 @@
 // Each kind of command, done through its public call.
 ghost use mathlib.Core.Path.{_≡_};
+ghost use mathlib.Core.List.{map};
 ghost use lib.ListN.{length};
 ghost use Rattle.tables.specs.Tables.{tables};
 ghost use Rattle.machine.specs.Types.{add, revoke, request, approve, reject};
 ghost use Rattle.fields.specs.Parts.{by};
 ghost use Rattle.commands.specs.Commands.{open-by, change, status-of, page-from};
 ghost use Rattle.lines.specs.Replies.{told};
-ghost use Rattle.acts.specs.Acts.{Acts, Replies};
+ghost use Rattle.acts.specs.Acts.{Acts, Replies, request-of};
 use crate::reply::numbered;
 use crate::reply::opening;
 use crate::reply::page;
@@ -23,6 +24,7 @@ use ids::Key;
 use ids::RequestId;
 use lines::Reply;
 use records::Caller;
+use records::PageEntry;
 
 pub fn open_by(
     book: &mut [[u64; 6]],
@@ -146,18 +148,36 @@ pub fn status_one(book: &[[u64; 6]], keys: &[[u8; 32]], texts: &[u8], request: R
     status(ledger::request_status(book, keys, texts, request))
 }
 
-// The page's entries are left in `rows`, which holds every page.
+// The request numbers of a page's entries.
+fn list_requests(requests: &mut [u64], entries: [PageEntry; 100])
+    requires { ⌜ length (now requests) ≡ 100 ⌝ }
+    ensures { λ _. ⌜ now (requests .exit) ≡ map request-of entries ⌝ }
+{
+    let mut i = 0;
+    while i < 100 {
+        let entry = entries[i];
+        let id = entry.request_id;
+        requests[i] = id.0;
+        i += 1;
+    }
+}
+
+// The request numbers of the page are left in `requests`, which holds those of any page.
 pub fn page_one(
     book: &[[u64; 6]],
     keys: &[[u8; 32]],
     texts: &[u8],
-    rows: &mut [[u64; 8]],
+    requests: &mut [u64],
     c: PageCommand,
 ) -> Reply
-    requires { ⌜ length (now rows) ≡ 100 ⌝ }
+    requires { ⌜ length (now requests) ≡ 100 ⌝ }
     ensures { λ r. ⌜ Acts (page-from (c .from) (c .limit))
         (tables (now (book .entry)) (now (keys .entry)) (now (texts .entry)))
-        (tables (now (book .entry)) (now (keys .entry)) (now (texts .entry))) (told r (now (rows .exit))) ⌝ }
+        (tables (now (book .entry)) (now (keys .entry)) (now (texts .entry))) (told r (now (requests .exit))) ⌝ }
 {
-    page(ledger::approvals(book, keys, texts, c.from, c.limit, rows))
+    let gave = ledger::approvals_page(book, keys, texts, c.from, c.limit);
+    let entries = gave.entries;
+    list_requests(requests, entries);
+    let answer = gave.answer;
+    page(answer)
 }

@@ -1,7 +1,7 @@
 -- What the machine's outcomes are as answers of code: for each case of an answer, the refusal, or the record and its values. Beside a refusal a record is all zero.
 -- Assumes nothing.
 use Prim.Native.Nat.{ℕ}
-use lib.ListN.{drop, length}
+use lib.ListN.{drop, length, replicate}
 use mathlib.Core.List.{List, [], _++_, _∷_, map}
 use mathlib.Core.Option.{Option, none, some}
 use Rattle.answers.specs.declared.Answer.{Answer}
@@ -14,6 +14,7 @@ use Rattle.answers.specs.declared.Shown.{Shown}
 use Rattle.answers.specs.declared.StatusAnswer.{StatusAnswer}
 use Rattle.machine.specs.Machine.{Did}
 use Rattle.machine.specs.Plan.{Outcome, did, refused}
+use Rattle.machine.specs.Reads.{entry}
 use Rattle.machine.specs.Told.{Texted, no-time, no-verdict, proof-of, request-of}
 use Rattle.machine.specs.Types.{Asked, Bytes, Undecided}
 use Rattle.records.specs.declared.ActionRequest.{ActionRequest}
@@ -37,6 +38,9 @@ no-request = request-of 0 no-asked Undecided .is
 
 abbrev pub no-proof : ApprovalProof
 no-proof = proof-of 0 no-asked 0 no-verdict .is
+
+abbrev pub no-entry : PageEntry
+no-entry = entry 0 no-proof
 
 -- ---- changes
 abbrev pub registered : Outcome (Did Principal) → Registered
@@ -78,3 +82,25 @@ pub record PageOut : Type 0 where
 abbrev pub paged : List (List ℕ) → Outcome (List PageEntry) → PageOut
 paged rows (refused e) = record { answer = Paged.Refused e; rows = rows }
 paged rows (did es) = record { answer = Paged.Entries (length es); rows = map entryRow es ++ drop (length es) rows }
+
+-- ---- the same page as records, written to the front of a lent row of them
+pub record EntriesOut : Type 0 where
+  pub answer : Paged
+  pub page : List PageEntry
+
+abbrev pub entered : List PageEntry → Outcome (List PageEntry) → EntriesOut
+entered page (refused e) = record { answer = Paged.Refused e; page = page }
+entered page (did es) = record { answer = Paged.Entries (length es); page = es ++ drop (length es) page }
+
+-- a row of a page's largest size, with nothing in it
+abbrev pub no-entries : List PageEntry
+no-entries = replicate 100 no-entry
+
+-- ---- the answer alone, and the number of entries that it tells
+abbrev pub page-told : Outcome (List PageEntry) → Paged
+page-told (refused e) = Paged.Refused e
+page-told (did es) = Paged.Entries (length es)
+
+abbrev pub entry-count : Paged → ℕ
+entry-count (Paged.Entries n) = n
+entry-count (Paged.Refused e) = 0

@@ -2,7 +2,7 @@
 use Prim.Native.Nat.{ℕ}
 use lib.ListN.{length}
 use mathlib.Core.List.{List}
-use Rattle.answers.specs.Answers.{PageOut, no-proof, paged, proved, registered, requested, shown, status-answer}
+use Rattle.answers.specs.Answers.{EntriesOut, PageOut, entered, no-proof, page-told, paged, proved, registered, requested, shown, status-answer}
 use Rattle.answers.specs.Does.{Call}
 use Rattle.answers.specs.declared.Paged.{Paged}
 use Rattle.answers.specs.declared.ProofAnswer.{ProofAnswer}
@@ -21,6 +21,7 @@ use Rattle.machine.specs.Reads.{approval, page-into, revocations, status}
 use Rattle.machine.specs.Types.{Bytes, Ledger}
 use Rattle.records.specs.declared.BlockTime.{BlockTime}
 use Rattle.records.specs.declared.Caller.{Caller}
+use Rattle.records.specs.declared.PageEntry.{PageEntry}
 use Rattle.records.specs.declared.Role.{Role}
 use Rattle.records.specs.declared.refusal.Refusal.the-variants.{Damaged}
 use Rattle.answers.specs.declared.Registered.the-variants as Registered
@@ -66,3 +67,11 @@ revocations-call agent approver = read-call (RevocationsAnswer.Refused Damaged) 
 -- the lent rows as they were at entry
 unfoldable pub page-call : List (List ℕ) → ℕ → ℕ → Call PageOut
 page-call rows from limit = read-call (record { answer = Paged.Refused Damaged; rows = rows }) (λ L. paged rows (outcome (page-into L from limit (length rows))))
+
+-- the lent records as they were at entry
+unfoldable pub entries-call : List PageEntry → ℕ → ℕ → Call EntriesOut
+entries-call page from limit = read-call (record { answer = Paged.Refused Damaged; page = page }) (λ L. entered page (outcome (page-into L from limit (length page))))
+
+-- the answer alone, for a row of `room` places
+unfoldable pub told-call : ℕ → ℕ → ℕ → Call Paged
+told-call room from limit = read-call (Paged.Refused Damaged) (λ L. page-told (outcome (page-into L from limit room)))

@@ -1,12 +1,13 @@
 // What each public call answers. For `ledger`, the crates of its parts, and all who call it.
 ghost use mathlib.Core.Path.{_≡_};
-ghost use Rattle.answers.specs.Answers.{no-proof};
+ghost use Rattle.answers.specs.Answers.{no-entry, no-proof};
 use ids::Account;
 use ids::RegistrationId;
 use ids::RequestId;
 use records::ActionRequest;
 use records::ApprovalProof;
 use records::BlockTime;
+use records::PageEntry;
 use records::Principal;
 use records::ProofRevocations;
 use records::Refusal;
@@ -85,4 +86,28 @@ pub enum RevocationsAnswer {
 pub enum Paged {
     Entries(u64),
     Refused(Refusal),
+}
+
+// A page as records; where the page has fewer, the others are all zero.
+pub struct Page {
+    pub answer: Paged,
+    pub entries: [PageEntry; 100],
+}
+
+// Stands in every place of a page that has no entry.
+pub fn no_entry() -> PageEntry
+    ensures { λ r. ⌜ r ≡ no-entry ⌝ }
+{
+    let never = BlockTime {
+        height: 0,
+        timestamp_ns: 0,
+    };
+    PageEntry {
+        slot: 0,
+        request_id: RequestId(0),
+        agent_registration_id: RegistrationId(0),
+        approver_registration_id: RegistrationId(0),
+        requested_at: never,
+        approved_at: never,
+    }
 }

@@ -36,7 +36,7 @@ pub extern "C" fn brasstally_page(
         (tables (now (book .entry)) (now (keys .entry)) (now (texts .entry)))
         (record { outcome = r; rows = now (rows .exit) }) ⌝ }
 {
-    let answer = ledger::approvals(book, keys, texts, from, limit, rows);
+    let answer = ledger::approvals_as_numbers(book, keys, texts, from, limit, rows);
     of_page(answer)
 }
 

@@ -9,10 +9,11 @@ use mathlib.Core.Bool.{Bool, false, true}
 use mathlib.Core.List.{List}
 use native.Mathlib.Omega.{arith}
 use Rattle.answers.proofs.Determined.{determined, opens-determined, refusal-changes-nothing, text-determined, unchanged}
-use Rattle.answers.specs.Answers.{PageOut, paged, proved, registered, requested}
-use Rattle.answers.specs.Calls.{add-call, approve-call, change-call, page-call, read-call, reject-call, request-call, revoke-call}
+use Rattle.answers.specs.Answers.{EntriesOut, PageOut, entered, paged, proved, registered, requested}
+use Rattle.answers.specs.Calls.{add-call, approve-call, change-call, entries-call, page-call, read-call, reject-call, request-call, revoke-call}
 use Rattle.answers.specs.Does.{Call, Does, Opens}
 use Rattle.answers.specs.Texts.{TextRead}
+use Rattle.answers.specs.declared.Paged.{Paged}
 use Rattle.answers.specs.declared.Answer.{Answer}
 use Rattle.answers.specs.declared.Proved.{Proved}
 use Rattle.answers.specs.declared.Registered.{Registered}
@@ -72,18 +73,29 @@ module _ {t u : Tables} where
   unfolding reject-call
   refused-reject c n now d = nothing-changed requested (λ q. refuses (q .answer)) (λ _. refl) (λ L. reject-in L c (n .0) now) d
 
--- a read changes no table, refused or not; and a refused page no row
+-- a read changes no table, refused or not; and a refused page nothing that is lent for it
 module _ {A : Type 0} (bad : A) (tell : Ledger → A) {t u : Tables} {r : A} where
   pub a-read : Does (read-call bad tell) t u r → u ≡ t
   a-read d = unchanged (read-call bad tell) d (λ L st. refl)
 
+module _ {A O : Type 0} (lent : O → A) (answer : O → Paged) (out : Outcome (List PageEntry) → O) (was : A) (at-refusal : (e : Refusal) → lent (out (refused e)) ≡ was)
+    (not-then : (es : List PageEntry) → refuses-to-page (answer (out (did es))) ≡ false) where
+  lent-as-it-was : (bad : O) (asked : Ledger → Outcome (List PageEntry)) → lent bad ≡ was → {t u : Tables} {r : O} → Does (read-call bad (λ L. out (asked L))) t u r → refuses-to-page (answer r) ≡ true → lent r ≡ was
+  lent-as-it-was bad asked b {r = r} d h = elim (d .known) [
+    | inl w ↦ let e = d .sound (w .ledger) (w .stands) .0 in go (asked (w .ledger)) e
+    | inr n ↦ ap lent (d .damaged n .0) ∙ b
+  ]
+    where
+      go : (o : Outcome (List PageEntry)) → r ≡ out o → lent r ≡ was
+      go (refused e) q = ap lent q ∙ at-refusal e
+      go (did es) q = let z : true ≡ false = sym h ∙ ap (λ (x : O). refuses-to-page (answer x)) q ∙ not-then es in let y : _≡_ {A = ℕ} 0 1 = cc in absurd (omega arith)
+
 pub refused-page : (rows : List (List ℕ)) (start limit : ℕ) {t u : Tables} {r : PageOut} → Does (page-call rows start limit) t u r → refuses-to-page (r .answer) ≡ true → r .rows ≡ rows
 unfolding page-call
-refused-page rows start limit {r = r} d h = elim (d .known) [
-  | inl w ↦ let e = d .sound (w .ledger) (w .stands) .0 in go (outcome (page-into (w .ledger) start limit (length rows))) e
-  | inr n ↦ ap (λ (x : PageOut). x .rows) (d .damaged n .0)
-]
-  where
-    go : (o : Outcome (List PageEntry)) → r ≡ paged rows o → r .rows ≡ rows
-    go (refused e) q = ap (λ (x : PageOut). x .rows) q
-    go (did es) q = let z : true ≡ false = sym h ∙ ap (λ (x : PageOut). refuses-to-page (x .answer)) q in let y : _≡_ {A = ℕ} 0 1 = cc in absurd (omega arith)
+refused-page rows start limit d h =
+    lent-as-it-was (λ (x : PageOut). x .rows) (λ (x : PageOut). x .answer) (paged rows) rows (λ _. refl) (λ _. refl) _ (λ L. outcome (page-into L start limit (length rows))) refl d h
+
+pub refused-entries : (page : List PageEntry) (start limit : ℕ) {t u : Tables} {r : EntriesOut} → Does (entries-call page start limit) t u r → refuses-to-page (r .answer) ≡ true → r .page ≡ page
+unfolding entries-call
+refused-entries page start limit d h =
+    lent-as-it-was (λ (x : EntriesOut). x .page) (λ (x : EntriesOut). x .answer) (entered page) page (λ _. refl) (λ _. refl) _ (λ L. outcome (page-into L start limit (length page))) refl d h

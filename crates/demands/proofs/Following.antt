@@ -2,11 +2,11 @@
 use mathlib.Core.Path.{_∙_, _≡_, ap, refl, subst, sym}
 use lib.ListN.{length}
 use mathlib.Core.List.{List, [], _++_, _∷_}
-use Rattle.answers.specs.Answers.{paged, proved, registered, requested, shown, status-answer}
-use Rattle.answers.specs.Calls.{add-call, approval-call, approve-call, change-call, page-call, read-call, reject-call, request-call, revocations-call, revoke-call, status-call}
+use Rattle.answers.specs.Answers.{entered, paged, proved, registered, requested, shown, status-answer}
+use Rattle.answers.specs.Calls.{add-call, approval-call, approve-call, change-call, entries-call, page-call, read-call, reject-call, request-call, revocations-call, revoke-call, status-call}
 use Rattle.answers.specs.Does.{Does}
 use Rattle.answers.specs.declared.RevocationsAnswer.{RevocationsAnswer}
-use Rattle.demands.specs.Runs.{adds, revokes, requests, approves, rejects, Calls, Heard, Made, accepted-heards, asks-page, asks-proof, asks-revocations, asks-status, heard, heards, if-heard, none-yet, one-more, proved-as, registered-as, requested-as}
+use Rattle.demands.specs.Runs.{adds, revokes, requests, approves, rejects, Calls, Heard, Made, accepted-heards, asks-entries, asks-page, asks-proof, asks-revocations, asks-status, heard, heards, if-heard, none-yet, one-more, proved-as, registered-as, requested-as}
 use Rattle.history.specs.History.{accepted, if-accepted}
 use Rattle.machine.proofs.Keep.{left-giving}
 use Rattle.machine.specs.Machine.{Did, Given, action, add-to, approve-in, giving, left, principal, proof, reject-in, request-in, revoke-in, run, step}
@@ -35,7 +35,7 @@ follow-read : {A : Type 0} (bad : A) (tell : Ledger → A) {t u : Tables} {r : A
 follow-read bad tell d L st = record { stands-then = d .sound L st .1; heard-then = refl }
 
 pub follow-one : {t u : Tables} {cs : List Change} {hs : List Heard} → Made t cs hs u → (L : Ledger) → Stands t L → Followed L cs hs u
-unfolding add-call revoke-call request-call approve-call reject-call status-call approval-call revocations-call page-call
+unfolding add-call revoke-call request-call approve-call reject-call status-call approval-call revocations-call entries-call page-call
 follow-one (adds caller key who role d) L = follow-change registered-as registered principal (λ M. add-to M (caller .0) key (who .0) role) (add (caller .0) key (who .0) role) (λ M. refl) (λ M. refl) d L
 follow-one (revokes caller key now d) L = follow-change registered-as registered principal (λ M. revoke-in M (caller .0) key now) (revoke (caller .0) key now) (λ M. refl) (λ M. refl) d L
 follow-one (requests c text now d) L = follow-change requested-as requested action (λ M. request-in M c text now) (request c text now) (λ M. refl) (λ M. refl) d L
@@ -44,6 +44,7 @@ follow-one (rejects c n now d) L = follow-change requested-as requested action (
 follow-one (asks-status n d) L = follow-read _ (λ M. status-answer (status M (n .0))) d L
 follow-one (asks-proof n d) L = follow-read _ (λ M. shown (approval M (n .0))) d L
 follow-one (asks-revocations a b d) L = follow-read _ (λ M. RevocationsAnswer.Are (revocations M (a .0) (b .0))) d L
+follow-one (asks-entries page start limit d) L = follow-read _ (λ M. entered page (outcome (page-into M start limit (length page)))) d L
 follow-one (asks-page rows start limit d) L = follow-read _ (λ M. paged rows (outcome (page-into M start limit (length rows)))) d L
 
 -- ---- any calls

@@ -1,8 +1,8 @@
 -- Public calls made on lent tables, one after the other, each with any outcome that its promise allows; nothing else writes the tables. Assumes nothing.
 use Prim.Native.Nat.{ℕ}
 use mathlib.Core.List.{List, [], _++_, _∷_}
-use Rattle.answers.specs.Answers.{PageOut, proved, registered, requested}
-use Rattle.answers.specs.Calls.{add-call, approval-call, approve-call, page-call, reject-call, request-call, revocations-call, revoke-call, status-call}
+use Rattle.answers.specs.Answers.{EntriesOut, PageOut, proved, registered, requested}
+use Rattle.answers.specs.Calls.{add-call, approval-call, approve-call, entries-call, page-call, reject-call, request-call, revocations-call, revoke-call, status-call}
 use Rattle.answers.specs.Does.{Does}
 use Rattle.answers.specs.declared.Proved.{Proved}
 use Rattle.answers.specs.declared.Registered.{Registered}
@@ -18,6 +18,7 @@ use Rattle.machine.specs.Plan.{Outcome, did, outcome, refused}
 use Rattle.machine.specs.Types.{Bytes, Change, Ledger, add, approve, reject, request, revoke}
 use Rattle.records.specs.declared.BlockTime.{BlockTime}
 use Rattle.records.specs.declared.Caller.{Caller}
+use Rattle.records.specs.declared.PageEntry.{PageEntry}
 use Rattle.records.specs.declared.Role.{Role}
 use Rattle.tables.specs.Tables.{Tables}
 
@@ -62,6 +63,7 @@ pub data Made (t : Tables) : List Change → List Heard → Tables → Type 0 wh
   asks-status : {u : Tables} {r : StatusAnswer} (n : RequestId) → Does (status-call n) t u r → Made t [] [] u
   asks-proof : {u : Tables} {r : Shown} (n : RequestId) → Does (approval-call n) t u r → Made t [] [] u
   asks-revocations : {u : Tables} {r : RevocationsAnswer} (a b : RegistrationId) → Does (revocations-call a b) t u r → Made t [] [] u
+  asks-entries : {u : Tables} {r : EntriesOut} (page : List PageEntry) (start limit : ℕ) → Does (entries-call page start limit) t u r → Made t [] [] u
   asks-page : {u : Tables} {r : PageOut} (rows : List (List ℕ)) (start limit : ℕ) → Does (page-call rows start limit) t u r → Made t [] [] u
 
 -- ---- any calls, without opening again

@@ -12,7 +12,7 @@ use Rattle.machine.specs.Types.{Change}
 use Rattle.tables.specs.Tables.{Tables}
 use Rattle.answers.specs.declared.Paged.the-variants as Paged
 
--- what has been read so far: the rows of each page, one page after the other
+-- what has been read so far: the rows of each page, one page after the other. A page of records counts as that of its numbers (`crates/answers/proofs/Pages.antt`, `entries-are-numbers`)
 pub data Walked (limit : ℕ) (t : Tables) : List (List ℕ) → List (List Change) → Tables → Type 0 where
   not-yet : Walked limit t [] [] t
   a-page : {read : List (List ℕ)} {css : List (List Change)} {u v w : Tables} {out : PageOut} {k : ℕ} {cs : List Change} {hs : List Heard} (room : List (List ℕ)) → Walked limit t read css u

@@ -1,12 +1,11 @@
-// The reads: each is the check of the tables, and then its part. None changes a table.
+// The reads but the page's: each is the check of the tables, and then its part. None changes a table.
 ghost use Rattle.tables.specs.Tables.{tables};
 ghost use mathlib.Core.Path.{_≡_};
 ghost use Rattle.answers.specs.Answers.{no-proof};
 ghost use Rattle.answers.specs.Does.{Does};
 ghost use Rattle.answers.specs.declared.ProofAnswer.the-variants as ProofAnswer;
 ghost use Rattle.answers.specs.Texts.{TextRead};
-ghost use Rattle.answers.specs.Calls.{status-call, approval-call, revocations-call, page-call};
-use answers::Paged;
+ghost use Rattle.answers.specs.Calls.{status-call, approval-call, revocations-call};
 use answers::ProofAnswer;
 use answers::RevocationsAnswer;
 use answers::Shown;
@@ -86,24 +85,4 @@ pub fn proof_revocations(
         return RevocationsAnswer::Refused(Refusal::Damaged);
     }
     ledger_reads::revocations_sound(book, keys, texts, agent, approver)
-}
-
-// A page of the log, as rows of plain numbers at the front of `rows`: slot, request, both registrations, both times.
-pub fn approvals(
-    book: &[[u64; 6]],
-    keys: &[[u8; 32]],
-    texts: &[u8],
-    from: u64,
-    limit: u64,
-    rows: &mut [[u64; 8]],
-) -> Paged
-    ensures { λ r. ⌜ Does (page-call (now (rows .entry)) from limit)
-        (tables (now (book .entry)) (now (keys .entry)) (now (texts .entry)))
-        (tables (now (book .entry)) (now (keys .entry)) (now (texts .entry)))
-        (record { answer = r; rows = now (rows .exit) }) ⌝ }
-{
-    if !soundness::is_sound(book, keys, texts) {
-        return Paged::Refused(Refusal::Damaged);
-    }
-    ledger_reads::page_sound(book, keys, texts, from, limit, rows)
 }

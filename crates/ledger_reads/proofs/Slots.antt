@@ -1,4 +1,4 @@
--- A slot as code reads it: the request that it names, and that request's entry. Assumes nothing.
+-- A slot as code reads it: the request that it names, and that request's entry, as numbers and as a record. Assumes nothing.
 use mathlib.Core.Path.{_∙_, _≡_, ap, sym}
 use Prim.Native.Nat.{_+_, _<_, ℕ}
 use lib.ListN.{getD}
@@ -8,12 +8,14 @@ use native.Mathlib.Omega.{arith}
 use Rattle.answers.specs.Answers.{entryRow}
 use Rattle.ledger_reads.proofs.Decided.{slot-marked}
 use Rattle.ledger_reads.proofs.Requested.{proof-in-rows, proof-read}
+use Rattle.ledger_reads.specs.Read.{SlotEntry, SlotRow}
 use Rattle.lists.proofs.Places.{at-below, at-lt}
 use Rattle.lists.specs.Places.{At}
 use Rattle.machine.specs.Reads.{approval, entry}
-use Rattle.machine.specs.Told.{Texted}
+use Rattle.machine.specs.Told.{Texted, registration-id, request-id}
 use Rattle.machine.specs.Types.{Ledger}
 use Rattle.records.specs.declared.ApprovalProof.{ApprovalProof}
+use Rattle.records.specs.declared.PageEntry.{PageEntry}
 use Rattle.tables.proofs.Indexed.{decided-index, log-index}
 use Rattle.tables.proofs.Laid.{laid}
 use Rattle.tables.proofs.Rows.{log-count-is, request-count-is}
@@ -41,3 +43,17 @@ module _ {t : Tables} {L : Ledger} (st : Stands t L) {j : ℕ} where
       let read = proof-read st inside marked in
       let same : p .is ≡ proof-in-rows n (getD (t .book) (n + 65) []) (getD (t .keys) (n + 64) []) (getD (t .book) (n + 321) []) (getD (t .keys) (n + 320) []) = cc in
       rw (log-index st h (j + 833) (omega arith)) (ap (λ (q : ApprovalProof). entryRow (entry j q)) (sym same))
+
+-- ---- the record that a row of numbers makes
+abbrev entry-in-row : List ℕ → PageEntry
+entry-in-row row = record {
+  slot = getD row 0 0;
+  «request_id» = request-id (getD row 1 0);
+  «agent_registration_id» = registration-id (getD row 2 0);
+  «approver_registration_id» = registration-id (getD row 3 0);
+  «requested_at» = record { height = getD row 4 0; «timestamp_ns» = getD row 5 0 };
+  «approved_at» = record { height = getD row 6 0; «timestamp_ns» = getD row 7 0 };
+}
+
+pub entry-of-row : {t : Tables} {j : ℕ} {row : List ℕ} → SlotRow t j row → SlotEntry t j (entry-in-row row)
+entry-of-row s = record { shows = λ st h e. ap entry-in-row (s .shows st h e) }

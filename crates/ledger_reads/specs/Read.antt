@@ -10,6 +10,7 @@ use Rattle.machine.specs.Rooms.{largest, page-limit}
 use Rattle.machine.specs.Told.{Texted}
 use Rattle.machine.specs.Types.{Ledger}
 use Rattle.records.specs.declared.ApprovalProof.{ApprovalProof}
+use Rattle.records.specs.declared.PageEntry.{PageEntry}
 use Rattle.records.specs.declared.Revocation.{Revocation}
 use Rattle.rows.specs.declared.Found.{Found}
 use Rattle.tables.specs.Parts.{cell, request-count}
@@ -29,6 +30,13 @@ pub record EndedAt (t : Tables) (g : ℕ) (r : Revocation) : Type 0 where
 abbrev pub page-size : ℕ → ℕ → ℕ → ℕ
 page-size count from limit = min count (min (from + min limit page-limit) largest) - from
 
--- slot j names request n: the entry of n's proof
-pub record SlotRow (t : Tables) (j : ℕ) (row : List ℕ) : Type 0 where
-  pub shows : {L : Ledger} {n : ℕ} {p : Texted ApprovalProof} → Stands t L → At (L .log) j n → approval L n ≡ some p → row ≡ entryRow (entry j (p .is))
+-- slot j names request n: what f makes of the entry of n's proof
+pub record SlotAs {A : Type 0} (f : PageEntry → A) (t : Tables) (j : ℕ) (r : A) : Type 0 where
+  pub shows : {L : Ledger} {n : ℕ} {p : Texted ApprovalProof} → Stands t L → At (L .log) j n → approval L n ≡ some p → r ≡ f (entry j (p .is))
+
+-- as a row of numbers, and as it is
+abbrev pub SlotRow : Tables → ℕ → List ℕ → Type 0
+SlotRow = SlotAs entryRow
+
+abbrev pub SlotEntry : Tables → ℕ → PageEntry → Type 0
+SlotEntry = SlotAs (λ e. e)

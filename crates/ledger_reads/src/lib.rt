@@ -6,6 +6,8 @@ mod status;
 
 pub use approval::approval_sound;
 pub use approval::approval_text_sound;
+pub use page::entry_sound;
+pub use page::page_room_sound;
 pub use page::page_sound;
 pub use revocations::revocations_sound;
 pub use status::status_sound;

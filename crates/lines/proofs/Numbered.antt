@@ -1,6 +1,6 @@
 -- Numbers with a space before each, written one after the other. Assumes nothing.
 use mathlib.Core.Path.{_≡_, refl, sym, ap, subst, _∙_}
-use mathlib.Core.List.{List, [], _∷_, _++_, map, map-append, append-assoc, append-nil}
+use mathlib.Core.List.{List, [], _∷_, _++_, append-assoc, append-nil}
 use Prim.Native.Nat.{ℕ, _+_, _≤_, _<_, min}
 use mathlib.Core.Logic.{_⊎_, inl, inr}
 use native.Mathlib.Numerals.{add-one}
@@ -13,7 +13,6 @@ use Rattle.records.specs.Letters.{ascii}
 use Rattle.lines.specs.Decimal.{decimal}
 use Rattle.lines.specs.Lines.{spaced}
 use Rattle.lines.specs.Output.{Appends}
-use Rattle.lines.specs.Replies.{request-in}
 use Rattle.lines.proofs.Appending.{then-more, said-as}
 
 pub one-number : (n : ℕ) {out o : Bytes} {i j : ℕ} → Appends (ascii " " ++ decimal n) out i o j → Appends (spaced (n ∷ [])) out i o j
@@ -27,23 +26,20 @@ spaced-append (x ∷ xs) ys = ap (λ (z : Bytes). ascii " " ++ decimal x ++ z) (
 pub then-number : (xs : List ℕ) (n : ℕ) {out o p : Bytes} {i j k : ℕ} → Appends (spaced xs) out i o j → Appends (spaced (n ∷ [])) o j p k → Appends (spaced (xs ++ n ∷ [])) out i p k
 then-number xs n {out} {o} {p} {i} {j} {k} f g = subst (λ (x : Bytes). Appends x out i p k) (sym (spaced-append xs (n ∷ []))) (then-more f g)
 
--- ---- the request numbers of rows
-pub one-row-more : (rows : List (List ℕ)) (i : ℕ) {out o p : Bytes} {at j k : ℕ} → i < length rows
-    → Appends (spaced (map request-in (take i rows))) out at o j → Appends (spaced (request-in (getD rows i []) ∷ [])) o j p k
-    → Appends (spaced (map request-in (take (i + 1) rows))) out at p k
-one-row-more rows i {out} {p = p} {at} {k = k} h f g =
-    let e : map request-in (take (i + 1) rows) ≡ map request-in (take i rows) ++ request-in (getD rows i []) ∷ [] =
-    ap (λ (n : ℕ). map request-in (take n rows)) (add-one i) ∙ ap (map request-in) (take-suc rows i [] h) ∙ map-append request-in (take i rows) (getD rows i [] ∷ []) in
-    subst (λ (x : List ℕ). Appends (spaced x) out at p k) (sym e) (then-number (map request-in (take i rows)) (request-in (getD rows i [])) f g)
+-- ---- the first numbers of a row
+pub one-number-more : (ns : List ℕ) (i : ℕ) {out o p : Bytes} {at j k : ℕ} → i < length ns
+    → Appends (spaced (take i ns)) out at o j → Appends (spaced (getD ns i 0 ∷ [])) o j p k → Appends (spaced (take (i + 1) ns)) out at p k
+one-number-more ns i {out} {p = p} {at} {k = k} h f g =
+    let e : take (i + 1) ns ≡ take i ns ++ getD ns i 0 ∷ [] = ap (λ (n : ℕ). take n ns) (add-one i) ∙ take-suc ns i 0 h in
+    subst (λ (x : List ℕ). Appends (spaced x) out at p k) (sym e) (then-number (take i ns) (getD ns i 0) f g)
 
--- of the first k rows, or of all where there are fewer
-pub rows-all : (rows : List (List ℕ)) (i k : ℕ) {out o : Bytes} {at j : ℕ} → i ≡ min k (length rows)
-    → Appends (spaced (map request-in (take i rows))) out at o j → Appends (spaced (map request-in (take k rows))) out at o j
-rows-all rows i k {out} {o} {at} {j} e f = go (lt-or-ge k (length rows))
+-- the first k, or all where there are fewer
+pub numbers-all : (ns : List ℕ) (i k : ℕ) {out o : Bytes} {at j : ℕ} → i ≡ min k (length ns) → Appends (spaced (take i ns)) out at o j → Appends (spaced (take k ns)) out at o j
+numbers-all ns i k {out} {o} {at} {j} e f = go (lt-or-ge k (length ns))
   where
-    go : (k < length rows) ⊎ (length rows ≤ k) → Appends (spaced (map request-in (take k rows))) out at o j
-    go (inl l) = let same : i ≡ k = omega (arith, e) in said-as (ap (λ (n : ℕ). spaced (map request-in (take n rows))) same) f
-    go (inr l) = said-as (ap (λ (x : List (List ℕ)). spaced (map request-in x)) (take-all i rows (omega (arith, e)) ∙ sym (take-all k rows l))) f
+    go : (k < length ns) ⊎ (length ns ≤ k) → Appends (spaced (take k ns)) out at o j
+    go (inl l) = let same : i ≡ k = omega (arith, e) in said-as (ap (λ (n : ℕ). spaced (take n ns)) same) f
+    go (inr l) = said-as (ap spaced (take-all i ns (omega (arith, e)) ∙ sym (take-all k ns l))) f
 
 -- ---- what an accepted command's line says
 pub ok-alone : {out o : Bytes} {i j : ℕ} → Appends (ascii " ok") out i o j → Appends (ascii " ok" ++ spaced []) out i o j

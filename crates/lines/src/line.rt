@@ -9,7 +9,7 @@ use crate::output::push;
 use crate::output::push_counted;
 use crate::output::push_decimal;
 use crate::output::push_number;
-use crate::output::push_requests;
+use crate::output::push_numbers;
 use crate::reply::Reply;
 use crate::tally::Tally;
 use fields::Stop;
@@ -41,8 +41,8 @@ fn say_refused(out: &mut [u8], at: usize, why: Refusal) -> usize
 }
 
 // What follows a command's number.
-fn say(out: &mut [u8], at: usize, reply: Reply, rows: &[[u64; 8]]) -> usize
-    ensures { λ r. ⌜ Appends (said (told reply (now (rows .entry)))) (now (out .entry)) at (now (out .exit)) r ⌝ }
+fn say(out: &mut [u8], at: usize, reply: Reply, requests: &[u64]) -> usize
+    ensures { λ r. ⌜ Appends (said (told reply (now (requests .entry)))) (now (out .entry)) at (now (out .exit)) r ⌝ }
 {
     match reply {
         Reply::Done => push(out, at, b" ok"),
@@ -53,18 +53,18 @@ fn say(out: &mut [u8], at: usize, reply: Reply, rows: &[[u64; 8]]) -> usize
         Reply::Page(k) => {
             let head = push(out, at, b" ok");
             let next = push_number(out, head, k);
-            push_requests(out, next, rows, k as usize)
+            push_numbers(out, next, requests, k as usize)
         }
         Reply::Status(status) => say_status(out, at, status),
         Reply::Refused(why) => say_refused(out, at, why),
     }
 }
 
-pub fn answer_line(out: &mut [u8], at: usize, index: u64, reply: Reply, rows: &[[u64; 8]]) -> usize
-    ensures { λ r. ⌜ Appends (line index (told reply (now (rows .entry)))) (now (out .entry)) at (now (out .exit)) r ⌝ }
+pub fn answer_line(out: &mut [u8], at: usize, index: u64, reply: Reply, requests: &[u64]) -> usize
+    ensures { λ r. ⌜ Appends (line index (told reply (now (requests .entry)))) (now (out .entry)) at (now (out .exit)) r ⌝ }
 {
     let head = push_decimal(out, at, index);
-    let next = say(out, head, reply, rows);
+    let next = say(out, head, reply, requests);
     push(out, next, b"\n")
 }
 

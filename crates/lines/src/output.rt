@@ -1,12 +1,11 @@
 // Writing to a lent row of bytes: each function answers where the next text goes. What passes the row's end is left out.
 ghost use Prim.Native.Nat.{min};
 ghost use mathlib.Core.Path.{_≡_};
-ghost use mathlib.Core.List.{[], _∷_, _++_, map};
+ghost use mathlib.Core.List.{[], _∷_, _++_};
 ghost use lib.ListN.{take};
 ghost use Rattle.lines.specs.Decimal.{decimal};
 ghost use Rattle.lines.specs.Lines.{spaced};
 ghost use Rattle.lines.specs.Output.{Appends};
-ghost use Rattle.lines.specs.Replies.{request-in};
 use records::Text;
 use rows::change::put_bytes;
 
@@ -56,15 +55,15 @@ fn least(a: usize, b: usize) -> usize
     if a < b { a } else { b }
 }
 
-// The request numbers of the first k rows, a space before each.
-pub fn push_requests(out: &mut [u8], at: usize, rows: &[[u64; 8]], k: usize) -> usize
-    ensures { λ r. ⌜ Appends (spaced (map request-in (take k (now (rows .entry))))) (now (out .entry)) at (now (out .exit)) r ⌝ }
+// The first k of a row of numbers, a space before each.
+pub fn push_numbers(out: &mut [u8], at: usize, numbers: &[u64], k: usize) -> usize
+    ensures { λ r. ⌜ Appends (spaced (take k (now (numbers .entry)))) (now (out .entry)) at (now (out .exit)) r ⌝ }
 {
-    let n = least(k, rows.len());
+    let n = least(k, numbers.len());
     let mut next = at;
     let mut i = 0;
     while i < n {
-        next = push_number(out, next, rows[i][1]);
+        next = push_number(out, next, numbers[i]);
         i += 1;
     }
     next

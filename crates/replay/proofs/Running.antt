@@ -63,13 +63,13 @@ inside from next n (Is.Status m) p h = tt
 inside from next n (Is.Page c) p h = tt
 
 -- a page counts alike whatever its entries are
-pub page-counts : (r : Reply) (rows : List (List ℕ)) (t : Tally) → counted (told r []) t ≡ counted (told r rows) t
+pub page-counts : (r : Reply) (requests : List ℕ) (t : Tally) → counted (told r []) t ≡ counted (told r requests) t
 unfolding counted
-page-counts Reply.Done rows t = refl
-page-counts (Reply.Number n) rows t = refl
-page-counts (Reply.Page k) rows t = refl
-page-counts (Reply.Status s) rows t = refl
-page-counts (Reply.Refused e) rows t = refl
+page-counts Reply.Done requests t = refl
+page-counts (Reply.Number n) requests t = refl
+page-counts (Reply.Page k) requests t = refl
+page-counts (Reply.Status s) requests t = refl
+page-counts (Reply.Refused e) requests t = refl
 
 abbrev at-work : Tally → ℕ → ℕ → Progress
 at-work tally at wrote = record { tally = tally; at = at; wrote = wrote; more = true }

@@ -43,9 +43,9 @@ pub record Steps (input : Bytes) (t t′ : Tables) (out out′ : Bytes) (p p′ 
 
 -- a command is done, and its line is written
 pub record Answers (c : Command) (index : ℕ) (t t′ : Tables) (out out′ : Bytes) (wrote : ℕ) (r : Answered) : Type 0 where
-  pub rows : List (List ℕ)
-  pub acts : Acts c t t′ (told (r .reply) rows)
-  pub says : Appends (line index (told (r .reply) rows)) out wrote out′ (r .wrote)
+  pub requests : List ℕ
+  pub acts : Acts c t t′ (told (r .reply) requests)
+  pub says : Appends (line index (told (r .reply) requests)) out wrote out′ (r .wrote)
 
 -- the start of a run
 pub record Begins (input : Bytes) (out out′ : Bytes) (p : Progress) : Type 0 where

@@ -31,7 +31,7 @@ pub struct Answered {
     pub wrote: usize,
 }
 
-// A command done, and told in its line. A page's rows are its own.
+// A command done, and told in its line. The row for a page's request numbers is its own.
 fn answer(
     book: &mut [[u64; 6]],
     keys: &mut [[u8; 32]],
@@ -49,10 +49,10 @@ fn answer(
         (tables (now (book .exit)) (now (keys .exit)) (now (texts .exit)))
         (now (out .entry)) (now (out .exit)) wrote r ⌝ }
 {
-    let mut space = [[0u64; 8]; 100];
-    let rows: &mut [[u64; 8]] = &mut space;
-    let reply = act(book, keys, texts, rows, input, command, key);
-    let next = answer_line(out, wrote, index, reply, rows);
+    let mut space = [0u64; 100];
+    let requests: &mut [u64] = &mut space;
+    let reply = act(book, keys, texts, requests, input, command, key);
+    let next = answer_line(out, wrote, index, reply, requests);
     Answered { reply, wrote: next }
 }
 

@@ -48,7 +48,7 @@ enum-known-command-4 c = search needs
 
 -- src/any.rt:42:23
 add-end : tie.Need-add-end
-add-end c = let h = rw ((c .before .before .command4) .given .1) at ((c .before .before .before .before .before .before) .pre .0) in omega arith
+add-end c = let h = rw ((c .before .before .command4) .given .1) at ((c .before .before .before .before .before .before .before) .pre .0) in omega arith
 
 -- src/any.rt:43:44
 sub-ask : tie.Need-sub-ask
@@ -60,7 +60,7 @@ part-ask-start c = search needs
 
 -- src/any.rt:43:44
 part-ask-end : tie.Need-part-ask-end
-part-ask-end c = let h = rw ((c .before .before .before .before .before .command4) .given .1) at ((c .before .before .before .before .before .before .before .before .before) .pre .0) in omega arith
+part-ask-end c = let h = rw ((c .before .before .before .before .before .command4) .given .1) at ((c .before .before .before .before .before .before .before .before .before .before) .pre .0) in omega arith
 
 -- src/any.rt:43:13
 ask-requires : tie.Need-ask-requires
@@ -72,7 +72,7 @@ enum-known-command-5 c = search needs
 
 -- src/any.rt:47:23
 add-end-2 : tie.Need-add-end-2
-add-end-2 c = let h = rw ((c .before .before .command5) .given .1) at ((c .before .before .before .before .before .before) .pre .0) in omega arith
+add-end-2 c = let h = rw ((c .before .before .command5) .given .1) at ((c .before .before .before .before .before .before .before) .pre .0) in omega arith
 
 -- src/any.rt:48:52
 sub-approve-one : tie.Need-sub-approve-one
@@ -84,7 +84,7 @@ part-approve-one-start c = search needs
 
 -- src/any.rt:48:52
 part-approve-one-end : tie.Need-part-approve-one-end
-part-approve-one-end c = let h = rw ((c .before .before .before .before .before .command5) .given .1) at ((c .before .before .before .before .before .before .before .before .before) .pre .0) in omega arith
+part-approve-one-end c = let h = rw ((c .before .before .before .before .before .command5) .given .1) at ((c .before .before .before .before .before .before .before .before .before .before) .pre .0) in omega arith
 
 -- src/any.rt:48:13
 approve-one-requires : tie.Need-approve-one-requires
@@ -179,7 +179,7 @@ returns-4 : tie.Need-returns-4
 returns-4 c =
     let r = (c .before .before .before .before .before .before .before .before .before .before .before .command4) .given .0 .0 in
     rw ((c .before .before .before .before .before .before .before .before .before .before .before .command4) .given .1)
-    (lent-part (λ x. change (request (by (r .predecessor) (r .signer) ((c .before .before .before .before .before .before .before .before .before .before .before .before .before .before .before) .args .key)) x (r .now))) ((c .before .before .before .before .before .before .before .before .before .before .before .before .before .before .before) .args .input .now) (r .«text_start») (r .«text_len») _ _ _ ((c .before .before .before .before .ask) .ensures _))
+    (lent-part (λ x. change (request (by (r .predecessor) (r .signer) ((c .before .before .before .before .before .before .before .before .before .before .before .before .before .before .before .before) .args .key)) x (r .now))) ((c .before .before .before .before .before .before .before .before .before .before .before .before .before .before .before .before) .args .input .now) (r .«text_start») (r .«text_len») _ _ _ ((c .before .before .before .before .ask) .ensures _))
 
 -- src/any.rt:21:1
 same-length-13 : tie.Need-same-length-13
@@ -198,7 +198,7 @@ returns-5 : tie.Need-returns-5
 returns-5 c =
     let r = (c .before .before .before .before .before .before .before .before .before .before .before .command5) .given .0 .0 in
     rw ((c .before .before .before .before .before .before .before .before .before .before .before .command5) .given .1)
-    (lent-part (λ x. change (approve (by (r .predecessor) (r .signer) ((c .before .before .before .before .before .before .before .before .before .before .before .before .before .before .before) .args .key)) (r .request .0) x (r .now))) ((c .before .before .before .before .before .before .before .before .before .before .before .before .before .before .before) .args .input .now) (r .«text_start») (r .«text_len») _ _ _ ((c .before .before .before .before .approve-one) .ensures _))
+    (lent-part (λ x. change (approve (by (r .predecessor) (r .signer) ((c .before .before .before .before .before .before .before .before .before .before .before .before .before .before .before .before) .args .key)) (r .request .0) x (r .now))) ((c .before .before .before .before .before .before .before .before .before .before .before .before .before .before .before .before) .args .input .now) (r .«text_start») (r .«text_len») _ _ _ ((c .before .before .before .before .approve-one) .ensures _))
 
 -- src/any.rt:21:1
 same-length-16 : tie.Need-same-length-16
@@ -250,7 +250,7 @@ same-length-25 c = search needs
 
 -- src/any.rt:21:1
 returns-8 : tie.Need-returns-8
-returns-8 c = rw ((c .before .before .before .before .before .before .before .command8) .given .1) ((c .before .page-one) .ensures)
+returns-8 c = rw ((c .before .before .before .before .before .before .before .before .command8) .given .1) ((c .before .before .page-one) .ensures)
 
 pub act-spec : {M : Type 1} → statement M
 act-spec =

@@ -1,10 +1,10 @@
 -- `ledger_reads::page::page_sound` meets its contract. The loop's invariant: the first k entries are written, and nothing past them. Assumes nothing.
-use mathlib.Core.List.{map}
-use mathlib.Core.Path.{_≡_, refl}
+use mathlib.Core.List.{[], map}
+use mathlib.Core.Path.{_≡_, ap, refl, sym}
 use Prim.Native.Nat.{_-_, _≤_}
 use lib.ListN.{length, length-set}
 use Rattle.answers.proofs.Doing.{part-read}
-use Rattle.answers.specs.Answers.{entryRow}
+use Rattle.answers.specs.Answers.{entryRow, paged}
 use Rattle.answers.specs.Calls.{page-call}
 use Rattle.ledger_reads.proofs.Pages.{no-room, page-more, page-written}
 use Rattle.machine.specs.Reads.{entries}
@@ -34,7 +34,7 @@ page-size-requires c κs = search needs
 
 returns : tie.Need-returns Inv-loop μ-loop
 unfolding page-call
-returns c = part-read _ _ (λ L st. no-room st _ _ _ (rw (c .before .page-size .ensures) at (c .if1 .taken)))
+returns c = part-read _ _ (λ L st. ap (paged _) (sym (no-room st _ _ _ (rw (c .before .page-size .ensures) at (c .if1 .taken)))))
 
 loop-holds : tie.Need-loop-holds Inv-loop μ-loop
 loop-holds c = (omega arith, refl, λ L st. refl)
@@ -58,7 +58,7 @@ loop-less : tie.Need-loop-less Inv-loop μ-loop
 loop-less c = omega arith
 
 loop-again : tie.Need-loop-again Inv-loop μ-loop
-loop-again c = (omega arith, simp length-set (omega arith), λ L st. page-more st _ _ _ _ _ _ (c .before .before .loop .inv .2 L st) (c .before .before .before .before .page-size .ensures) _ (c .slot-row .ensures) (omega arith) (omega arith))
+loop-again c = (omega arith, simp length-set (omega arith), λ L st. page-more st _ _ entryRow [] _ _ _ _ (c .before .before .loop .inv .2 L st) (c .before .before .before .before .page-size .ensures) _ (c .slot-row .ensures) (omega arith) (omega arith))
 
 same-length : tie.Need-same-length Inv-loop μ-loop
 same-length c = omega arith

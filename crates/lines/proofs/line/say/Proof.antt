@@ -1,8 +1,6 @@
 -- `lines::line::say` meets its contract, by cases of the reply. Assumes nothing.
-use mathlib.Core.List.{map}
 use lib.ListN.{take}
 use Rattle.lines.specs.Lines.{said}
-use Rattle.lines.specs.Replies.{request-in}
 use Rattle.lines.proofs.Appending.{then-more}
 use Rattle.lines.proofs.Numbered.{ok-alone, then-page}
 use borrow.Author.Needs.{needs}
@@ -14,7 +12,7 @@ use Rattle.lines.proofs.line.say_refused.Reads as say-refused-reads
 use Rattle.lines.proofs.line.say_status.Reads as say-status-reads
 use Rattle.lines.proofs.output.push.Reads as push-reads
 use Rattle.lines.proofs.output.push_number.Reads as push-number-reads
-use Rattle.lines.proofs.output.push_requests.Reads as push-requests-reads
+use Rattle.lines.proofs.output.push_numbers.Reads as push-numbers-reads
 
 -- src/line.rt:47:29
 enum-told : tie.Need-enum-told
@@ -61,8 +59,8 @@ push-number-requires-2 : tie.Need-push-number-requires-2
 push-number-requires-2 c κs = search needs
 
 -- src/line.rt:55:13
-push-requests-requires : tie.Need-push-requests-requires
-push-requests-requires c κs = search needs
+push-numbers-requires : tie.Need-push-numbers-requires
+push-numbers-requires c κs = search needs
 
 -- src/line.rt:57:23
 enum-known-reply-3 : tie.Need-enum-known-reply-3
@@ -105,7 +103,7 @@ same-length-3 c = search needs
 -- src/line.rt:43:1
 returns-3 : tie.Need-returns-3
 unfolding said
-returns-3 c = rw ((c .before .before .before .before .before .before .before .before .before .before .before .before .before .before .reply2) .given .1) (then-page _ (map request-in (take ((c .before .before .before .before .before .before .before .before .before .before .before .before .before .before .reply2) .given .0 .0) ((c .before .before .before .before .before .before .before .before .before .before .before .before .before .before .before .before .before) .args .rows .now))) ((c .before .before .before .before .before .before .before .before .before .before .push3) .ensures) ((c .before .before .before .before .before .before .push-number2) .ensures) ((c .before .before .push-requests) .ensures))
+returns-3 c = rw ((c .before .before .before .before .before .before .before .before .before .before .before .before .before .before .reply2) .given .1) (then-page _ (take ((c .before .before .before .before .before .before .before .before .before .before .before .before .before .before .reply2) .given .0 .0) ((c .before .before .before .before .before .before .before .before .before .before .before .before .before .before .before .before .before .before) .args .requests .now)) ((c .before .before .before .before .before .before .before .before .before .before .push3) .ensures) ((c .before .before .before .before .before .before .push-number2) .ensures) ((c .before .before .push-numbers) .ensures))
 
 -- src/line.rt:43:1
 same-length-4 : tie.Need-same-length-4
@@ -140,7 +138,7 @@ say-spec =
     slice-aggregate-push-3
     push-requires-3
     push-number-requires-2
-    push-requests-requires
+    push-numbers-requires
     enum-known-reply-3
     say-status-requires
     enum-known-reply-4

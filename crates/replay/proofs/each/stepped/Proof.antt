@@ -64,7 +64,7 @@ returns : tie.Need-returns
 returns c =
     let t = rw ((c .before .before .before .before .before .before .before .before .before .before .before .before .before .before .step) .given .1) at ((c .before .before .before .before .before .before .before .before .before .before .before .before .before .before .before .before .read-command) .ensures) in
     let a = (c .before .before .before .before .before .before .before .answer) .ensures in
-    went-on ((c .before .before .before .before .before .before .before .before .before .before .before .before .before .before .before .before .before .before .before .before) .args .input .now) _ _ (t .means) (a .acts) (a .says) ((c .counted) .ensures ∙ page-counts ((c .before .before .before .before .before .before .before .answer) .result .reply) (a .rows) ((c .before .before .before .before .before .before .before .before .before .before .before .before .before .before .before .before .before .before .before .before) .args .tally))
+    went-on ((c .before .before .before .before .before .before .before .before .before .before .before .before .before .before .before .before .before .before .before .before) .args .input .now) _ _ (t .means) (a .acts) (a .says) ((c .counted) .ensures ∙ page-counts ((c .before .before .before .before .before .before .before .answer) .result .reply) (a .requests) ((c .before .before .before .before .before .before .before .before .before .before .before .before .before .before .before .before .before .before .before .before) .args .tally))
 
 -- src/each.rt:60:1
 returns-2 : tie.Need-returns-2

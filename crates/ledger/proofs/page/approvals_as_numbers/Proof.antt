@@ -1,10 +1,10 @@
--- `ledger::read::approvals` meets its contract: the check, and then its part. Assumes nothing.
+-- `ledger::page::approvals_as_numbers` meets its contract: the check, and then its part. Assumes nothing.
 use Rattle.ids.proofs.Flags.{confirmed, refuted}
 use Rattle.answers.proofs.Doing.{does-damaged, does-part}
 use Rattle.answers.specs.Calls.{page-call}
 use borrow.Author.Needs.{needs}
-use Rattle.ledger.proofs.read.approvals.Statement.{statement}
-use Rattle.ledger.proofs.read.approvals.Tie as tie
+use Rattle.ledger.proofs.page.approvals_as_numbers.Statement.{statement}
+use Rattle.ledger.proofs.page.approvals_as_numbers.Tie as tie
 
 is-sound-requires : tie.Need-is-sound-requires
 is-sound-requires c κs = search needs
@@ -22,6 +22,6 @@ same-length c = search needs
 returns-2 : tie.Need-returns-2
 returns-2 c = does-part _ (confirmed ((c .before .before .before .before .is-sound) .ensures) ((c .before .before .before .if1) .left)) ((c .before .page-sound) .ensures)
 
-pub approvals-spec : {M : Type 1} → statement M
-approvals-spec =
+pub approvals-as-numbers-spec : {M : Type 1} → statement M
+approvals-as-numbers-spec =
     tie.close (tie.spec is-sound-requires returns page-sound-requires same-length returns-2)
