@@ -1,10 +1,5 @@
 // Document 01's pump-side examples, each sentence run on real tables, with what the call answered. For whoever wants to see the ledger answer.
-mod outcome;
-mod people;
-mod rounds;
 mod scenes;
-mod tell;
-mod tries;
 
 fn main() {
     let mut book = [[0u64; 6]; 1089];

@@ -1,13 +1,13 @@
 // The scenes: each opens a ledger anew and makes the calls of one line of document 01's list. For `main`.
-use crate::outcome::Outcome;
-use crate::people;
-use crate::rounds;
-use crate::tell;
-use crate::tries;
-use crate::tries::Book;
-use crate::tries::Keys;
-use crate::tries::Texts;
 use ids::Account;
+use pump_calls::outcome::Outcome;
+use pump_calls::people;
+use pump_calls::rounds;
+use pump_calls::tell;
+use pump_calls::tries;
+use pump_calls::tries::Book;
+use pump_calls::tries::Keys;
+use pump_calls::tries::Texts;
 use records::Refusal;
 use records::RequestStatus;
 use records::Role;

@@ -1,9 +1,9 @@
--- `pump::rounds::approvals` is safe and ends: the measure is the calls that are left, and nothing has to hold from turn to turn. Assumes nothing.
+-- `pump_calls::rounds::approvals` is safe and ends: the measure is the calls that are left, and nothing has to hold from turn to turn. Assumes nothing.
 use Prim.Native.Nat.{_-_}
 use native.Mathlib.Omega.{arith}
 use borrow.Author.Needs.{needs}
-use Rattle.pump.proofs.rounds.approvals.Statement.{statement}
-use Rattle.pump.proofs.rounds.approvals.Tie as tie
+use Rattle.pump_calls.proofs.rounds.approvals.Statement.{statement}
+use Rattle.pump_calls.proofs.rounds.approvals.Tie as tie
 
 abbrev Inv-loop : tie.InvT-loop
 Inv-loop book₀ keys₀ texts₀ n last₀ i₀ t7 t8 book keys texts last i = Unit {0}

@@ -1,4 +1,4 @@
-// Calls made again and again, to fill a room. Each gives what its last call came to. For `scenes`.
+// Calls made again and again, to fill a room. Each gives what its last call came to. For the scenes.
 use crate::outcome::Outcome;
 use crate::people;
 use crate::tries;

@@ -1,4 +1,4 @@
-// The public calls as the scenes make them: at one time, on tables of the right lengths, with one form of outcome. For `rounds` and `scenes`.
+// The public calls as the scenes make them: at one time, on tables of the right lengths, with one form of outcome. For `rounds` and the scenes.
 use crate::outcome::Outcome;
 use answers::Answer;
 use answers::Paged;
@@ -140,8 +140,9 @@ pub fn status(book: &Book, keys: &Keys, texts: &Texts, request: u64) -> Outcome 
 
 // How many entries a page has.
 pub fn page(book: &Book, keys: &Keys, texts: &Texts, from: u64, limit: u64) -> Outcome {
-    let mut rows = [[0u64; 8]; 100];
-    match ledger::approvals(book, keys, texts, from, limit, &mut rows) {
+    let gave = ledger::approvals_page(book, keys, texts, from, limit);
+    let answer = gave.answer;
+    match answer {
         Paged::Entries(n) => Outcome::Count(n),
         Paged::Refused(why) => Outcome::Refused(why),
     }

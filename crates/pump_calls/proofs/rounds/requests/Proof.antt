@@ -1,8 +1,8 @@
--- `pump::rounds::requests` is safe and ends: the measure is the calls that are left, and nothing has to hold from turn to turn. Assumes nothing.
+-- `pump_calls::rounds::requests` is safe and ends: the measure is the calls that are left, and nothing has to hold from turn to turn. Assumes nothing.
 use Prim.Native.Nat.{_-_}
 use native.Mathlib.Omega.{arith}
-use Rattle.pump.proofs.rounds.requests.Statement.{statement}
-use Rattle.pump.proofs.rounds.requests.Tie as tie
+use Rattle.pump_calls.proofs.rounds.requests.Statement.{statement}
+use Rattle.pump_calls.proofs.rounds.requests.Tie as tie
 
 abbrev Inv-loop : tie.InvT-loop
 Inv-loop book₀ keys₀ texts₀ action n last₀ i₀ book keys texts last i = Unit {0}

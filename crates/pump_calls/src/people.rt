@@ -1,4 +1,4 @@
-// Who calls: document 01's A, B and C, each with an account and a key; and as many agents as a scene wants. For `rounds` and `scenes`.
+// Who calls: document 01's A, B and C, each with an account and a key; and as many agents as a scene wants. For `rounds` and the scenes.
 use ids::Account;
 use ids::Key;
 use records::Caller;
