@@ -45,6 +45,24 @@ build() {
     esac
 }
 
+# a share of the cases for each core, as processes: an emulated program's threads are slow. The last line adds up the shares' last lines
+compare() {
+    shares=$(nproc) share=0 passed=0 failed=0
+    while [ "$share" -lt "$shares" ]; do
+        $run "$here/$built" "$@" --share "$share/$shares" >"target/share-$share.log" 2>&1 &
+        share=$((share + 1))
+    done
+    wait
+    while [ "$share" -gt 0 ]; do
+        share=$((share - 1))
+        cat "target/share-$share.log"
+        counts=$(tail -n 1 "target/share-$share.log" | grep -x '[0-9]* passed, [0-9]* failed') || counts='0 passed, 1 failed'
+        passed=$((passed + ${counts%% *})) counts=${counts#*, } failed=$((failed + ${counts%% *}))
+    done
+    echo "$passed passed, $failed failed"
+    [ "$failed" -eq 0 ]
+}
+
 machine=$(uname -m) port='' cc=gcc run=''
 mkdir -p "$here/target" && cd "$here" || exit 1
 grep -q '^capi:' "$root/crates.txt" 2>/dev/null && port=yes
@@ -66,5 +84,6 @@ if [ -n "$port" ]; then
     $run target/smoke || fail "the C program failed"
 fi
 build || fail "the host can't be built"
+[ "$1" = compare ] && { compare "$@"; exit; }
 [ "$1" = sample ] && cd "$from" # its directory is named from where the caller stands
 exec $run "$here/$built" "$@"

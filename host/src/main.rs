@@ -33,7 +33,7 @@ use std::path::{Path, PathBuf};
 use std::process::ExitCode;
 
 const USAGE: &str = "\
-compare [--files N] [--seed S] [--failing DIRECTORY]
+compare [--files N] [--seed S] [--share K/N] [--failing DIRECTORY]
 replay FILE
 bench
 sample [--directory DIRECTORY]";
@@ -77,16 +77,25 @@ fn store(directory: &Path) -> Result<bool, String> {
 
 fn compare(options: &[&str]) -> Result<bool, String> {
     let (mut files, mut seed) = (20_000, 1);
+    let mut share = suite::Share { first: 0, of: 1 };
     let mut failing = PathBuf::from("target/failing");
     for option in options.chunks(2) {
         match *option {
             ["--files", n] => files = n.parse().map_err(|_| USAGE)?,
             ["--seed", n] => seed = n.parse().map_err(|_| USAGE)?,
+            ["--share", part] => share = share_of(part).ok_or(USAGE)?,
             ["--failing", path] => failing = PathBuf::from(path),
             _ => return Err(USAGE.to_string()),
         }
     }
-    Ok(suite::Suite::new(subject::ours(), failing).run(files, seed))
+    Ok(suite::Suite::new(subject::ours(), share, failing).run(files, seed))
+}
+
+// "1/4" is the second of four shares.
+fn share_of(part: &str) -> Option<suite::Share> {
+    let (first, of) = part.split_once('/')?;
+    let (first, of) = (first.parse().ok()?, of.parse().ok()?);
+    (first < of).then(|| suite::Share { first, of })
 }
 
 // A failing case again, with what the rebuild says of it.

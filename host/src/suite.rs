@@ -18,17 +18,33 @@ use std::time::Instant;
 // Failing cases past this number are counted and not written out.
 const WRITTEN_AT_MOST: u64 = 20;
 
+// One of `of` shares of every group's cases: those whose number leaves `first` over. Shares run side by side as processes.
+#[derive(Clone, Copy)]
+pub struct Share {
+    pub first: usize,
+    pub of: usize,
+}
+
+// How a command file is compared: in one call, which is enough to try the reader, or command by command too.
+#[derive(Clone, Copy)]
+enum Way {
+    Whole,
+    Both,
+}
+
 pub struct Suite<S: Subject> {
     comparer: Comparer<S>,
+    share: Share,
     failing: PathBuf,
     passed: u64,
     failed: u64,
 }
 
 impl<S: Subject> Suite<S> {
-    pub fn new(ours: S, failing: PathBuf) -> Suite<S> {
+    pub fn new(ours: S, share: Share, failing: PathBuf) -> Suite<S> {
         Suite {
             comparer: Comparer::new(ours),
+            share,
             failing,
             passed: 0,
             failed: 0,
@@ -38,7 +54,8 @@ impl<S: Subject> Suite<S> {
     // All groups. The last line has the counts, and the answer is whether nothing failed.
     pub fn run(&mut self, files: u64, seed: u64) -> bool {
         println!("ours: {}", self.comparer.ours.name());
-        println!("seed {seed}, {files} random files");
+        let Share { first, of } = self.share;
+        println!("seed {seed}, {files} random files, share {first} of {of}");
         self.group("document 01's examples", |s| s.examples());
         self.group("random files", |s| s.random_files(files, seed));
         self.group("single calls on damaged tables", |s| {
@@ -61,101 +78,97 @@ impl<S: Subject> Suite<S> {
         println!("{name}: {count} cases in {seconds:.1} s, {rate:.0} a second");
     }
 
-    fn count(&mut self, name: &str, case: Case, verdict: Verdict) {
-        let difference = match verdict {
-            Ok(()) => return self.passed += 1,
-            Err(difference) => difference,
-        };
+    // Makes and tries this share of `count` cases.
+    fn deal(&mut self, count: usize, way: Way, make: impl Fn(usize) -> (String, Case)) {
+        for at in (self.share.first..count).step_by(self.share.of) {
+            let (name, case) = make(at);
+            match judged(&mut self.comparer, way, &case) {
+                Ok(()) => self.passed += 1,
+                Err(difference) => self.fail(&name, &case, &difference),
+            }
+        }
+    }
+
+    fn fail(&mut self, name: &str, case: &Case, difference: &str) {
         self.failed += 1;
         if self.failed > WRITTEN_AT_MOST {
             return;
         }
         println!("FAILED {name}: {difference}");
-        match save(&self.failing, name, &case) {
+        match save(&self.failing, name, case) {
             Ok(path) => println!("written to {}", path.display()),
             Err(error) => println!("not written: {error}"),
         }
     }
 
-    // Both ways: in one call and command by command.
-    fn file(&mut self, name: &str, input: Vec<u8>) {
-        let comparer = &mut self.comparer;
-        let verdict = comparer.whole_file(&input);
-        let verdict = verdict.and_then(|()| comparer.by_command(&input));
-        self.count(name, Case::File(input), verdict);
-    }
-
     // The rebuild itself must say what document 01 says, and ours the same.
     fn examples(&mut self) {
+        let mut inputs = Vec::new();
         for example in pump::examples() {
             let name = example.name.replace(' ', "-").replace(',', "");
             let input = file_of(&example.commands);
             let said = last_answer(&input);
             if said != example.says {
                 let difference = format!("document 01: {}, the rebuild: {said}", example.says);
-                self.count(&name, Case::File(input), Err(difference));
-                continue;
+                self.fail(&name, &Case::File(input.clone()), &difference);
             }
-            self.file(&name, input);
+            inputs.push((name, input));
         }
+        self.deal(inputs.len(), Way::Both, |i| {
+            let (name, input) = inputs[i].clone();
+            (name, Case::File(input))
+        });
     }
 
     fn random_files(&mut self, files: u64, seed: u64) {
-        for case in 0..files {
-            self.file(&format!("file-{seed}-{case}"), file(seed, case));
-        }
+        self.deal(files as usize, Way::Both, |case| {
+            let input = file(seed, case as u64);
+            (format!("file-{seed}-{case}"), Case::File(input))
+        });
     }
 
     fn calls(&mut self, calls: u64, seed: u64) {
-        for case in 0..calls {
-            let call = call(seed, case);
-            let verdict = self.comparer.single_call(&call);
-            self.count(&format!("call-{seed}-{case}"), Case::Call(call), verdict);
-        }
+        self.deal(calls as usize, Way::Whole, |case| {
+            let call = call(seed, case as u64);
+            (format!("call-{seed}-{case}"), Case::Call(call))
+        });
     }
 
-    // These try the reader, so one call for each is enough.
-    fn whole(&mut self, name: &str, inputs: impl Iterator<Item = Vec<u8>>) {
-        for (i, input) in inputs.enumerate() {
-            let verdict = self.comparer.whole_file(&input);
-            self.count(&format!("{name}-{i}"), Case::File(input), verdict);
-        }
+    fn files(&mut self, way: Way, name: &str, inputs: Vec<Vec<u8>>) {
+        self.deal(inputs.len(), way, |i| {
+            (format!("{name}-{i}"), Case::File(inputs[i].clone()))
+        });
     }
 
     fn short_inputs(&mut self) {
-        self.whole("short", inputs::up_to_two_bytes());
-        self.whole("tail", inputs::open_and_tail());
+        self.files(Way::Whole, "short", inputs::up_to_two_bytes().collect());
+        self.files(Way::Whole, "tail", inputs::open_and_tail().collect());
     }
 
     fn made_inputs(&mut self) {
-        self.whole("tag", inputs::every_tag().into_iter());
-        self.whole("length", inputs::every_length().into_iter());
-        self.whole("cut", inputs::every_cut_and_change().into_iter());
-        for (i, input) in inputs::at_the_limit().into_iter().enumerate() {
-            self.file(&format!("limit-{i}"), input);
-        }
+        self.files(Way::Whole, "tag", inputs::every_tag());
+        self.files(Way::Whole, "length", inputs::every_length());
+        self.files(Way::Whole, "cut", inputs::every_cut_and_change());
+        self.files(Way::Both, "limit", inputs::at_the_limit());
     }
 
     // Each table one row short, one too long, or empty: all is refused with 20, in single calls and in whole files.
     fn wrong_lengths(&mut self, seed: u64) {
-        for (i, tables) in wrong_tables().into_iter().enumerate() {
-            for command in inputs::one_of_each() {
-                let tables = tables.clone();
-                let room = 100;
-                let call = Call {
-                    tables,
-                    command,
-                    room,
-                };
-                let verdict = self.comparer.single_call(&call);
-                let name = format!("lengths-{i}-{}", call.command.kind());
-                self.count(&name, Case::Call(call), verdict);
-            }
-            let input = file(seed, i as u64);
-            let verdict = self.comparer.file_on(&tables, &input);
-            let case = Case::FileOn(tables, input);
-            self.count(&format!("lengths-{i}"), case, verdict);
-        }
+        let (all, commands) = (wrong_tables(), inputs::one_of_each());
+        self.deal(all.len() * commands.len(), Way::Whole, |n| {
+            let (i, command) = (n / commands.len(), &commands[n % commands.len()]);
+            let name = format!("lengths-{i}-{n}");
+            let case = Case::Call(Call {
+                tables: all[i].clone(),
+                command: command.clone(),
+                room: 100,
+            });
+            (name, case)
+        });
+        self.deal(all.len(), Way::Whole, |i| {
+            let case = Case::FileOn(all[i].clone(), file(seed, i as u64));
+            (format!("lengths-{i}"), case)
+        });
     }
 
     // Where many files were made, each refusal, fault and kind must have been met.
@@ -172,11 +185,25 @@ impl<S: Subject> Suite<S> {
         let all = seen.refusals.iter().all(|n| *n > 0)
             && seen.faults.iter().all(|n| *n > 0)
             && seen.accepted[1..].iter().all(|n| *n > 0);
-        match all || files < 1000 {
+        match all || files < 1000 * self.share.of as u64 {
             true => self.passed += 1,
             false => {
                 self.failed += 1;
                 println!("FAILED: a refusal, a fault or a kind was not reached");
+            }
+        }
+    }
+}
+
+fn judged<S: Subject>(comparer: &mut Comparer<S>, way: Way, case: &Case) -> Verdict {
+    match case {
+        Case::Call(call) => comparer.single_call(call),
+        Case::FileOn(tables, input) => comparer.file_on(tables, input),
+        Case::File(input) => {
+            comparer.whole_file(input)?;
+            match way {
+                Way::Whole => Ok(()),
+                Way::Both => comparer.by_command(input),
             }
         }
     }
@@ -208,13 +235,5 @@ fn wrong_tables() -> Vec<Tables> {
 
 // One case again, from its file.
 pub fn again<S: Subject>(ours: S, case: Case) -> Verdict {
-    let mut comparer = Comparer::new(ours);
-    match case {
-        Case::Call(call) => comparer.single_call(&call),
-        Case::FileOn(tables, input) => comparer.file_on(&tables, &input),
-        Case::File(input) => {
-            comparer.whole_file(&input)?;
-            comparer.by_command(&input)
-        }
-    }
+    judged(&mut Comparer::new(ours), Way::Both, &case)
 }
