@@ -2,3 +2,4 @@
 pub mod Telling
 pub mod Showing
 pub mod Fixed
+pub mod Refused
