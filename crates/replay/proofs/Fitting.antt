@@ -68,7 +68,7 @@ lines-fit fit input =
     let s = all fit (f .commands) start in
     simp length-append (omega (arith, few-commands input, all-short fit (f .commands) start tt, stopped-short (f .stop), end-short (s .tally)))
 
--- so that a row of 2 MiB holds them all
-pub lines-whole : (input : Bytes) {t t′ : Tables} (out : Bytes) {out′ : Bytes} {r : Ran} → length out ≡ lines-room → Replays input t t′ out out′ r
+-- so that a row of 2 MiB or more holds them all
+pub lines-whole : (input : Bytes) {t t′ : Tables} (out : Bytes) {out′ : Bytes} {r : Ran} → lines-room ≤ length out → Replays input t t′ out out′ r
     → (r .wrote ≡ length (output (whole (sized t) input))) × (take (r .wrote) out′ ≡ output (whole (sized t) input))
 lines-whole input {t} out long p = in-full out (output (whole (sized t) input)) (p .lines) (omega (arith, lines-fit (sized t) input))
