@@ -8,3 +8,4 @@ pub mod Progress
 pub mod Written
 pub mod Example
 pub mod First
+pub mod Sizes

@@ -132,3 +132,9 @@ module _ (more out : Bytes) (n : ℕ) {o : Bytes} where
       ∙ ap (λ (k : ℕ). paste out n (take room more) k) long
       ∙ ap (λ (x : Bytes). take n out ++ x ++ drop (n + room) out) (take-take room room more (omega arith)) in
       record { then = λ was text w. subst (λ (x : Bytes). Wrote was (text ++ more) x (length out)) (sym same) (part more out n h was text w room (omega arith) less) }
+
+-- ---- a text that the row has room for stands in it whole
+pub in-full : (was text : Bytes) {out : Bytes} {n : ℕ} → Wrote was text out n → length text ≤ length was → (n ≡ length text) × (take n out ≡ text)
+in-full was text {out} {n} w h =
+    let s = short was text out n w h in
+    (s .1, ap (λ (k : ℕ). take k out) (s .1) ∙ ap (take (length text)) (s .0) ∙ take-append-seam text (drop (length text) was))

@@ -1,3 +1,4 @@
 pub mod Appending
 pub mod Decimal
 pub mod Numbered
+pub mod Short

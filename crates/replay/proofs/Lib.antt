@@ -1,3 +1,4 @@
 pub mod Standing
 pub mod Running
 pub mod Walks
+pub mod Fitting
