@@ -1,4 +1,6 @@
 // The program: it runs a command file, from standard input or from the file that its argument names, on tables of its own, and writes the run's lines.
+mod telling;
+
 use libc::STDIN_FILENO;
 use libc::STDOUT_FILENO;
 
@@ -9,12 +11,9 @@ fn run_from(fd: i32) {
 }
 
 fn run_lines(input: &[u8]) {
-    let mut book = rooms::book();
-    let mut keys = rooms::keys();
-    let mut texts = rooms::texts();
     let mut out = rooms::lines();
-    let ran = replay::run(&mut book, &mut keys, &mut texts, input, &mut out);
-    let is_written = io::write_all(STDOUT_FILENO, &out[..ran.wrote]);
+    let n = telling::tell(input, &mut out);
+    let is_written = io::write_all(STDOUT_FILENO, &out[..n]);
     if !is_written {
         os::fail(b"standard output");
     }

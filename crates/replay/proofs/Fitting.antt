@@ -1,5 +1,5 @@
 -- The lines of any run fit into 2 MiB: at most 4,681 commands of at most 428 bytes of line each, the stopped line and the end line. Assumes nothing.
-use mathlib.Core.Path.{_≡_}
+use mathlib.Core.Path.{_≡_, refl, subst, sym}
 use mathlib.Core.Bool.{Bool, true, false}
 use mathlib.Core.Option.{Option, none, some}
 use mathlib.Core.List.{List, [], _∷_}
@@ -18,7 +18,7 @@ use Rattle.lines.proofs.Short.{Few, end-short, line-short, stopped-short}
 use Rattle.lines.specs.Lines.{line}
 use Rattle.acts.proofs.Few.{after-sound, told-few}
 use Rattle.replay.specs.declared.file.Ran.{Ran}
-use Rattle.replay.specs.Run.{Acted, Replays, State, acted, all, on, one, opening, output, sized, start, whole}
+use Rattle.replay.specs.Run.{Acted, Replays, State, acted, all, on, one, lines-room, opening, output, Prints, sized, start, whole}
 
 -- ---- the ledger that stands, if one was opened, is sound; so what is told is short
 abbrev Sane : Option Ledger → Type 0
@@ -58,9 +58,6 @@ all-short fit (c ∷ cs) s h =
     )
 
 -- ---- the whole run
-abbrev pub lines-room : ℕ
-lines-room = 2097152
-
 pub lines-fit : (fit : Bool) (input : Bytes) → length (output (whole fit input)) ≤ lines-room
 unfolding whole
 lines-fit fit input =
@@ -72,3 +69,13 @@ lines-fit fit input =
 pub lines-whole : (input : Bytes) {t t′ : Tables} (out : Bytes) {out′ : Bytes} {r : Ran} → lines-room ≤ length out → Replays input t t′ out out′ r
     → (r .wrote ≡ length (output (whole (sized t) input))) × (take (r .wrote) out′ ≡ output (whole (sized t) input))
 lines-whole input {t} out long p = in-full out (output (whole (sized t) input)) (p .lines) (omega (arith, lines-fit (sized t) input))
+
+-- a program's own tables have the right lengths
+right : (t : Tables) → 1089 ≡ length (t .book) → 576 ≡ length (t .keys) → 32768 ≡ length (t .texts) → sized t ≡ true
+unfolding sized
+right t b k w = rw (sym b, sym k, sym w) refl
+
+pub prints : (input : Bytes) (t : Tables) {t′ : Tables} (out : Bytes) {out′ : Bytes} {r : Ran} → 1089 ≡ length (t .book) → 576 ≡ length (t .keys) → 32768 ≡ length (t .texts)
+    → lines-room ≤ length out → Replays input t t′ out out′ r → Prints input out′ (r .wrote)
+prints input t out {out′} {r} b k w long p =
+    subst (λ (fit : Bool). take (r .wrote) out′ ≡ output (whole fit input)) (right t b k w) (lines-whole input out long p .1)

@@ -6,7 +6,7 @@ use mathlib.Core.Option.{Option, none, some}
 use mathlib.Core.List.{List, [], _∷_, _++_}
 use Prim.Native.Nat.{ℕ}
 use lib.Dec.{eqb}
-use lib.ListN.{length}
+use lib.ListN.{length, take}
 use Rattle.records.specs.declared.refusal.Refusal.the-variants.{Damaged}
 use Rattle.machine.specs.Machine.{opened}
 use Rattle.machine.specs.Types.{Bytes, Ledger}
@@ -83,6 +83,13 @@ sized t = eqb (length (t .book)) 1089 && eqb (length (t .keys)) 576 && eqb (leng
 abbrev pub Ends : Tables → Tables → Option Ledger → Type 0
 Ends t t′ none = t′ ≡ t
 Ends t t′ (some L) = Stands t′ L
+
+-- ---- what a program prints that has tables of the right lengths, and room for the lines of any run: the whole output
+abbrev pub lines-room : ℕ
+lines-room = 2097152
+
+abbrev pub Prints : Bytes → Bytes → ℕ → Type 0
+Prints input out n = take n out ≡ output (whole true input)
 
 -- ---- THE PROMISE: lines, tally and tables are those of the run
 pub record Replays (input : Bytes) (t t′ : Tables) (out out′ : Bytes) (r : Ran) : Type 0 where
