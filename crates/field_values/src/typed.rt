@@ -1,14 +1,15 @@
 // Fields by what they hold: a number, a key, a time, a role, who calls, a text and when. Each lends its value's part to the reader for what it holds.
 ghost use mathlib.Core.Path.{_≡_};
 ghost use Rattle.fields.specs.Fields.{_holds_};
 ghost use Rattle.fields.specs.declared.field.Form.the-variants.{Exactly};
-ghost use Rattle.fields.specs.Parts.{Within, StartsAt, NumberRead, KeyRead, TimeRead, RoleRead, by, nobody, CallerRead, MessageRead};
-use crate::fault::Stop;
-use crate::field::Form;
-use crate::field::Part;
-use crate::field::field;
-use crate::number::key_in;
-use crate::number::number_in;
+ghost use Rattle.fields.specs.Parts.{Within, StartsAt};
+ghost use Rattle.field_values.specs.Held.{NumberRead, KeyRead, TimeRead, RoleRead, by, nobody, CallerRead, MessageRead};
+use fields::Form;
+use fields::Part;
+use fields::Stop;
+use fields::field::field;
+use fields::key_in;
+use fields::number_in;
 use ids::Account;
 use ids::Key;
 use records::BlockTime;

@@ -5,13 +5,14 @@ use native.Mathlib.Omega.{arith}
 use lib.ListN.{length, drop, length-drop}
 use borrow.Author.Tests.{eq-eqb, ne-eqb}
 use Rattle.machine.specs.Types.{Bytes}
 use Rattle.fields.specs.declared.fault.Stop.{Stop}
 use Rattle.fields.specs.declared.field.Span.{Span}
-use Rattle.fields.specs.declared.typed.Timed.{Timed}
+use Rattle.field_values.specs.declared.typed.Timed.{Timed}
 use Rattle.fields.specs.Reader.{Reader, if-any-byte-is-left}
 use Rattle.fields.specs.Fields.{text}
-use Rattle.fields.specs.Groups.{message}
-use Rattle.fields.specs.Parts.{Within, StartsAt, Gives, Halts, Found, Timing, Noting, part-of, lent-from}
+use Rattle.field_values.specs.Groups.{message}
+use Rattle.fields.specs.Parts.{Within, StartsAt, Gives, Halts, Found, part-of}
+use Rattle.field_values.specs.Held.{Timing, Noting, lent-from}
 
 pub within : {A : Type 0} {m : Reader A} {value : Bytes} {off at next : ℕ} {a : A} → StartsAt value off → Gives m value off at a next → Within value off next
 within s g = record { inside = g .inside; fits = s }

@@ -1,13 +1,13 @@
--- `fields::typed::key_field` meets its contract: the part that was found, copied. Assumes nothing.
+-- `field_values::typed::key_field` meets its contract: the part that was found, copied. Assumes nothing.
 use mathlib.Core.Path.{refl}
 use native.Mathlib.Omega.{arith}
 use borrow.Author.Needs.{needs}
 use Rattle.fields.specs.Fields.{key}
 use Rattle.fields.specs.Parts.{Found}
 use Rattle.fields.proofs.Parts.{length-part}
-use Rattle.fields.proofs.Holding.{exactly}
-use Rattle.fields.proofs.typed.key_field.Statement.{statement}
-use Rattle.fields.proofs.typed.key_field.Tie as tie
+use Rattle.field_values.proofs.Holding.{exactly}
+use Rattle.field_values.proofs.typed.key_field.Statement.{statement}
+use Rattle.field_values.proofs.typed.key_field.Tie as tie
 
 -- the part that `field` found
 there : (c : tie.After-span) → let a = c .before .before .before .before .args in Found key (a .value .now) (a .off) (a .at) (c .span .given .0 .0)

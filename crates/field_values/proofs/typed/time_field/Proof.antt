@@ -1,15 +1,15 @@
--- `fields::typed::time_field` meets its contract: the part that was found, lent to the reader for what it holds. Assumes nothing.
+-- `field_values::typed::time_field` meets its contract: the part that was found, lent to the reader for what it holds. Assumes nothing.
 use mathlib.Core.Path.{ap, sym, _∙_}
 use native.Mathlib.Omega.{arith}
 use lib.ListN.{length-take}
 use borrow.Author.Needs.{needs}
 use Rattle.fields.specs.declared.field.Form.the-variants.{Exactly}
 use Rattle.fields.specs.Numbers.{number}
 use Rattle.fields.specs.Fields.{_holds_, time, block-time, time-field}
 use Rattle.fields.specs.Parts.{Found}
-use Rattle.fields.proofs.Holding.{exactly, holding, stopping, halves, both}
-use Rattle.fields.proofs.typed.time_field.Statement.{statement}
-use Rattle.fields.proofs.typed.time_field.Tie as tie
+use Rattle.field_values.proofs.Holding.{exactly, holding, stopping, halves, both}
+use Rattle.field_values.proofs.typed.time_field.Statement.{statement}
+use Rattle.field_values.proofs.typed.time_field.Tie as tie
 
 -- the part that `field` found
 there : (c : tie.After-span) → let a = c .before .before .before .before .args in Found (0x16 holds Exactly 16) (a .value .now) (a .off) (a .at) (c .span .given .0 .0)

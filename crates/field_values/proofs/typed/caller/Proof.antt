@@ -1,12 +1,12 @@
--- `fields::typed::caller` meets its contract: what is read on the way is 10, 11 and 12. Assumes nothing.
+-- `field_values::typed::caller` meets its contract: what is read on the way is 10, 11 and 12. Assumes nothing.
 use mathlib.Core.Path.{refl}
 use borrow.Author.Needs.{needs}
 use Rattle.fields.specs.Fields.{predecessor, signer, key, field, number-field}
-use Rattle.fields.specs.Groups.{caller}
+use Rattle.field_values.specs.Groups.{caller}
 use Rattle.fields.specs.Parts.{Gives}
-use Rattle.fields.proofs.Sequences.{within}
-use Rattle.fields.proofs.typed.caller.Statement.{statement}
-use Rattle.fields.proofs.typed.caller.Tie as tie
+use Rattle.field_values.proofs.Sequences.{within}
+use Rattle.field_values.proofs.typed.caller.Statement.{statement}
+use Rattle.field_values.proofs.typed.caller.Tie as tie
 
 at-hand : (c : tie.After-p) →
     let a = c .before .before .before .before .args in

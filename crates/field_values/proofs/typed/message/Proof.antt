@@ -1,12 +1,13 @@
--- `fields::typed::message` meets its contract: the text's part, and then the time. Assumes nothing.
+-- `field_values::typed::message` meets its contract: the text's part, and then the time. Assumes nothing.
 use native.Mathlib.Omega.{arith}
 use borrow.Author.Needs.{needs}
 use Rattle.fields.specs.Fields.{text}
-use Rattle.fields.specs.Groups.{message}
-use Rattle.fields.specs.Parts.{Found, Timing}
-use Rattle.fields.proofs.Sequences.{within, noting}
-use Rattle.fields.proofs.typed.message.Statement.{statement}
-use Rattle.fields.proofs.typed.message.Tie as tie
+use Rattle.field_values.specs.Groups.{message}
+use Rattle.fields.specs.Parts.{Found}
+use Rattle.field_values.specs.Held.{Timing}
+use Rattle.field_values.proofs.Sequences.{within, noting}
+use Rattle.field_values.proofs.typed.message.Statement.{statement}
+use Rattle.field_values.proofs.typed.message.Tie as tie
 
 the-text : (c : tie.After-span) →
     let a = c .before .before .before .before .args in

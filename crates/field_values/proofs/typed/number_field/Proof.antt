@@ -1,14 +1,14 @@
--- `fields::typed::number_field` meets its contract: the part that was found, lent to the reader for what it holds. Assumes nothing.
+-- `field_values::typed::number_field` meets its contract: the part that was found, lent to the reader for what it holds. Assumes nothing.
 use native.Mathlib.Omega.{arith}
 use borrow.Author.Needs.{needs}
 use Rattle.fields.specs.declared.field.Form.the-variants.{Exactly}
 use Rattle.fields.specs.Numbers.{number}
 use Rattle.fields.specs.Fields.{_holds_, number-field}
 use Rattle.fields.specs.Parts.{Found}
 use Rattle.fields.proofs.Parts.{length-part}
-use Rattle.fields.proofs.Holding.{exactly, holding, stopping}
-use Rattle.fields.proofs.typed.number_field.Statement.{statement}
-use Rattle.fields.proofs.typed.number_field.Tie as tie
+use Rattle.field_values.proofs.Holding.{exactly, holding, stopping}
+use Rattle.field_values.proofs.typed.number_field.Statement.{statement}
+use Rattle.field_values.proofs.typed.number_field.Tie as tie
 
 -- the part that `field` found
 there : (c : tie.After-span) → let a = c .before .before .before .before .args in Found (a .due holds Exactly 8) (a .value .now) (a .off) (a .at) (c .span .given .0 .0)

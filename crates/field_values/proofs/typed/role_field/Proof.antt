@@ -1,16 +1,16 @@
--- `fields::typed::role_field` meets its contract: the part that was found, lent to the reader for what it holds. Assumes nothing.
+-- `field_values::typed::role_field` meets its contract: the part that was found, lent to the reader for what it holds. Assumes nothing.
 use Rattle.records.specs.Roles.{role-of}
 use mathlib.Core.Path.{ap, _∙_}
 use native.Mathlib.Omega.{arith}
 use borrow.Author.Needs.{needs}
 use Rattle.fields.specs.declared.field.Form.the-variants.{RoleByte}
 use Rattle.fields.specs.Numbers.{number}
 use Rattle.fields.specs.Fields.{_holds_, role, role-field}
 use Rattle.fields.specs.Parts.{Found}
 use Rattle.fields.proofs.Parts.{length-part}
-use Rattle.fields.proofs.Holding.{one-byte, holding, stopping}
-use Rattle.fields.proofs.typed.role_field.Statement.{statement}
-use Rattle.fields.proofs.typed.role_field.Tie as tie
+use Rattle.field_values.proofs.Holding.{one-byte, holding, stopping}
+use Rattle.field_values.proofs.typed.role_field.Statement.{statement}
+use Rattle.field_values.proofs.typed.role_field.Tie as tie
 
 -- the part that `field` found
 there : (c : tie.After-span) → let a = c .before .before .before .before .args in Found (0x15 holds RoleByte) (a .value .now) (a .off) (a .at) (c .span .given .0 .0)
