@@ -6,9 +6,9 @@ use mathlib.Core.List.{List, [], _∷_}
 use mathlib.Core.Option.{some}
 use native.Mathlib.Omega.{arith}
 use Rattle.answers.specs.Answers.{entryRow}
 use Rattle.ledger_reads.proofs.Decided.{slot-marked}
 use Rattle.ledger_reads.proofs.Requested.{proof-in-rows, proof-read}
-use Rattle.ledger_reads.specs.Read.{SlotEntry, SlotRow}
+use Rattle.ledger_pages.specs.Pages.{SlotEntry, SlotRow}
 use Rattle.lists.proofs.Places.{at-below, at-lt}
 use Rattle.lists.specs.Places.{At}
 use Rattle.machine.specs.Reads.{approval, entry}

@@ -1,14 +1,14 @@
--- `ledger_reads::page::page_room_sound` meets its contract: the page's size against the room. Assumes nothing.
+-- `ledger_pages::page::page_room_sound` meets its contract: the page's size against the room. Assumes nothing.
 use mathlib.Core.Path.{ap, sym}
 use Rattle.answers.proofs.Doing.{part-read}
 use Rattle.answers.specs.Answers.{page-told}
 use Rattle.answers.specs.Calls.{told-call}
-use Rattle.ledger_reads.proofs.Pages.{no-room, page-counted}
+use Rattle.ledger_pages.proofs.Pages.{no-room, page-counted}
 use Rattle.tables.proofs.Fits.{fits}
 use borrow.Author.Needs.{needs}
 use native.Mathlib.Omega.{arith}
-use Rattle.ledger_reads.proofs.page.page_room_sound.Statement.{statement}
-use Rattle.ledger_reads.proofs.page.page_room_sound.Tie as tie
+use Rattle.ledger_pages.proofs.page.page_room_sound.Statement.{statement}
+use Rattle.ledger_pages.proofs.page.page_room_sound.Tie as tie
 
 index-1-page-size : tie.Need-index-1-page-size
 index-1-page-size c = let w = fits (c .before .pre .stands) in omega arith

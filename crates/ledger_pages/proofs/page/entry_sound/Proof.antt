@@ -1,10 +1,10 @@
--- `ledger_reads::page::entry_sound` meets its contract: the record that the slot's row of numbers makes. Assumes nothing.
-use Rattle.ledger_reads.proofs.Slots.{entry-of-row}
+-- `ledger_pages::page::entry_sound` meets its contract: the record that the slot's row of numbers makes. Assumes nothing.
+use Rattle.ledger_pages.proofs.Slots.{entry-of-row}
 use Rattle.tables.proofs.Fits.{fits}
 use borrow.Author.Needs.{needs}
 use native.Mathlib.Omega.{arith}
-use Rattle.ledger_reads.proofs.page.entry_sound.Statement.{statement}
-use Rattle.ledger_reads.proofs.page.entry_sound.Tie as tie
+use Rattle.ledger_pages.proofs.page.entry_sound.Statement.{statement}
+use Rattle.ledger_pages.proofs.page.entry_sound.Tie as tie
 
 add-slot-row : tie.Need-add-slot-row
 add-slot-row c = let w = fits (c .before .pre .0 .stands) in omega (arith, c .before .pre .1)

@@ -3,7 +3,7 @@ ghost use mathlib.Core.Path.{_≡_};
 ghost use Prim.Native.Nat.{_+_, _<_};
 ghost use Rattle.answers.specs.Calls.{page-call, told-call};
 ghost use Rattle.answers.specs.Does.{Part};
-ghost use Rattle.ledger_reads.specs.Read.{SlotEntry, SlotRow, page-size};
+ghost use Rattle.ledger_pages.specs.Pages.{SlotEntry, SlotRow, page-size};
 ghost use Rattle.tables.specs.Parts.{log-count};
 ghost use Rattle.tables.specs.Tables.{Standing, tables};
 use answers::Paged;

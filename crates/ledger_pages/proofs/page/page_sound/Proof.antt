@@ -1,4 +1,4 @@
--- `ledger_reads::page::page_sound` meets its contract. The loop's invariant: the first k entries are written, and nothing past them. Assumes nothing.
+-- `ledger_pages::page::page_sound` meets its contract. The loop's invariant: the first k entries are written, and nothing past them. Assumes nothing.
 use mathlib.Core.List.{[], map}
 use mathlib.Core.Path.{_≡_, ap, refl, sym}
 use Prim.Native.Nat.{_-_, _≤_}
@@ -6,7 +6,7 @@ use lib.ListN.{length, length-set}
 use Rattle.answers.proofs.Doing.{part-read}
 use Rattle.answers.specs.Answers.{entryRow, paged}
 use Rattle.answers.specs.Calls.{page-call}
-use Rattle.ledger_reads.proofs.Pages.{no-room, page-more, page-written}
+use Rattle.ledger_pages.proofs.Pages.{no-room, page-more, page-written}
 use Rattle.machine.specs.Reads.{entries}
 use Rattle.machine.specs.Types.{Ledger}
 use Rattle.rows.proofs.Written.{over}
@@ -14,8 +14,8 @@ use Rattle.tables.proofs.Fits.{fits}
 use Rattle.tables.specs.Tables.{Stands, tables}
 use borrow.Author.Needs.{needs}
 use native.Mathlib.Omega.{arith}
-use Rattle.ledger_reads.proofs.page.page_sound.Statement.{statement}
-use Rattle.ledger_reads.proofs.page.page_sound.Tie as tie
+use Rattle.ledger_pages.proofs.page.page_sound.Statement.{statement}
+use Rattle.ledger_pages.proofs.page.page_sound.Tie as tie
 
 abbrev Inv-loop : tie.InvT-loop
 Inv-loop book keys texts from limit rows₀ size k₀ rows k = (k ≤ size) × (length rows ≡ length rows₀) × ((L : Ledger) → Stands (tables book keys texts) L → rows ≡ over rows₀ k (map entryRow (entries L from limit)))

@@ -1,10 +1,10 @@
--- `ledger_reads::page::slot_row` meets its contract: the slot's request, and the cells of its rows. Assumes nothing.
-use Rattle.ledger_reads.proofs.Slots.{slot-inside, slot-read}
+-- `ledger_pages::page::slot_row` meets its contract: the slot's request, and the cells of its rows. Assumes nothing.
+use Rattle.ledger_pages.proofs.Slots.{slot-inside, slot-read}
 use Rattle.tables.proofs.Fits.{fits}
 use native.Mathlib.Omega.{arith}
 use borrow.Author.Needs.{needs}
-use Rattle.ledger_reads.proofs.page.slot_row.Statement.{statement}
-use Rattle.ledger_reads.proofs.page.slot_row.Tie as tie
+use Rattle.ledger_pages.proofs.page.slot_row.Statement.{statement}
+use Rattle.ledger_pages.proofs.page.slot_row.Tie as tie
 
 add-n : tie.Need-add-n
 add-n c = let w = fits (c .pre .0 .stands) in omega (arith, c .pre .1)

@@ -7,7 +7,7 @@ use lib.Seq.{take-all}
 use mathlib.Core.List.{List, [], _++_, map}
 use native.Mathlib.Omega.{arith}
 use Rattle.answers.specs.Answers.{entryRow, page-told, paged}
-use Rattle.ledger_reads.specs.Read.{SlotAs, page-size}
+use Rattle.ledger_pages.specs.Pages.{SlotAs, page-size}
 use Rattle.lists.proofs.Getting.{getD-of-at}
 use Rattle.lists.proofs.Maps.{at-map}
 use Rattle.lists.proofs.Places.{at-below, at-drop, at-take}
