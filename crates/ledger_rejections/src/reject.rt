@@ -2,10 +2,10 @@
 ghost use Rattle.answers.specs.Calls.{reject-call};
 ghost use Rattle.answers.specs.Does.{Part};
 ghost use Rattle.tables.specs.Tables.{Standing, tables};
-use crate::store::store;
 use answers::Answer;
 use answers::Requested;
 use ids::RequestId;
+use ledger_decisions::store::store;
 use ledger_keys::Auth;
 use ledger_keys::authenticate;
 use ledger_requests::Decidable;

@@ -2,7 +2,7 @@
 ghost use mathlib.Core.Path.{_≡_};
 ghost use Rattle.answers.specs.Answers.{proved};
 ghost use Rattle.machine.specs.Plan.{refused};
-ghost use Rattle.ledger_decisions.specs.Recorded.{proof-told};
+ghost use Rattle.ledger_approvals.specs.Recorded.{proof-told};
 use answers::Answer;
 use answers::Proved;
 use ids::Account;

@@ -2,12 +2,12 @@
 ghost use Rattle.answers.specs.Calls.{approve-call};
 ghost use Rattle.answers.specs.Does.{Part};
 ghost use Rattle.tables.specs.Tables.{Standing, tables};
-use crate::store::store;
 use crate::told::proof_of;
 use crate::told::proof_refused;
 use answers::Answer;
 use answers::Proved;
 use ids::RequestId;
+use ledger_decisions::store::store;
 use ledger_keys::Auth;
 use ledger_keys::authenticate;
 use ledger_requests::Decidable;

@@ -1,8 +1,8 @@
--- `ledger_decisions::reject::reject_sound` meets its contract: each answer by the tests before it. Assumes nothing.
+-- `ledger_rejections::reject::reject_sound` meets its contract: each answer by the tests before it. Assumes nothing.
 use Prim.Native.Nat.{ℕ}
 use mathlib.Core.Path.{refl}
-use Rattle.ledger_decisions.proofs.Rejecting.{rejects, self, stranger, undecidable}
+use Rattle.ledger_rejections.proofs.Rejecting.{rejects, self, stranger, undecidable}
 use Rattle.ledger_decisions.proofs.Picked.{Ready, agent-in, agent-size, agent-sum, asked-in, asked-size, asked-sum, by-in, by-size, by-sum, ready}
 use Rattle.ledger_keys.specs.Authenticates.{Authenticates}
 use Rattle.ledger_requests.specs.Candidates.{MayDecide}
 use Rattle.records.specs.declared.Role.the-variants.{Approver}
@@ -10,8 +10,8 @@ use Rattle.tables.specs.Tables.{Tables, tables}
 use Rattle.ledger_keys.specs.declared.Auth.the-variants as Auth
 use Rattle.ledger_requests.specs.declared.decidable.Decidable.the-variants as Decidable
 use borrow.Author.Needs.{needs}
-use Rattle.ledger_decisions.proofs.reject.reject_sound.Statement.{statement}
-use Rattle.ledger_decisions.proofs.reject.reject_sound.Tie as tie
+use Rattle.ledger_rejections.proofs.reject.reject_sound.Statement.{statement}
+use Rattle.ledger_rejections.proofs.reject.reject_sound.Tie as tie
 
 -- the tables that are lent
 abbrev lent : tie.Start → Tables

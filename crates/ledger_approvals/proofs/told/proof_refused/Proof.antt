@@ -1,7 +1,7 @@
--- `ledger_decisions::told::proof_refused` meets its contract. Assumes nothing.
+-- `ledger_approvals::told::proof_refused` meets its contract. Assumes nothing.
 use borrow.Author.Needs.{needs}
-use Rattle.ledger_decisions.proofs.told.proof_refused.Statement.{statement}
-use Rattle.ledger_decisions.proofs.told.proof_refused.Tie as tie
+use Rattle.ledger_approvals.proofs.told.proof_refused.Statement.{statement}
+use Rattle.ledger_approvals.proofs.told.proof_refused.Tie as tie
 
 no-proof-requires : tie.Need-no-proof-requires
 no-proof-requires c κs = search needs

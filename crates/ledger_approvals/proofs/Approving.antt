@@ -12,10 +12,10 @@ use Rattle.answers.specs.Calls.{approve-call}
 use Rattle.answers.specs.Does.{Part}
 use Rattle.answers.specs.declared.Proved.{Proved}
 use Rattle.ids.specs.declared.RequestId.{RequestId}
 use Rattle.ledger_decisions.proofs.Laying.{book-laid, head-kept, keys-laid, log-laid, texts-laid}
 use Rattle.ledger_decisions.proofs.Picked.{does, not-authentic, not-decidable, refuses}
-use Rattle.ledger_decisions.specs.Recorded.{proof-told}
+use Rattle.ledger_approvals.specs.Recorded.{proof-told}
 use Rattle.ledger_decisions.specs.Stores.{settled}
 use Rattle.ledger_keys.specs.Authenticates.{Authenticates}
 use Rattle.ledger_requests.proofs.Cells.{asked-cell, holder-cell, logged-is}
 use Rattle.ledger_requests.specs.Candidates.{MayDecide}
