@@ -4,7 +4,7 @@ ghost use mathlib.Core.List.{map};
 ghost use lib.ListN.{length};
 ghost use Rattle.tables.specs.Tables.{tables};
 ghost use Rattle.machine.specs.Types.{add, revoke, request, approve, reject};
-ghost use Rattle.fields.specs.Parts.{by};
+ghost use Rattle.field_values.specs.Held.{by};
 ghost use Rattle.commands.specs.Commands.{open-by, change, status-of, page-from};
 ghost use Rattle.lines.specs.Replies.{told};
 ghost use Rattle.acts.specs.Acts.{Acts, Replies, request-of};

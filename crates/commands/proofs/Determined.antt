@@ -6,7 +6,7 @@ use lib.ListN.{length, drop, length-drop}
 use lib.Seq.{length-take-le}
 use Rattle.machine.specs.Types.{Bytes, add, revoke, request, approve, reject}
 use Rattle.machine.specs.Told.{account, request-id}
-use Rattle.fields.specs.Parts.{no-key}
+use Rattle.field_values.specs.Held.{no-key}
 use Rattle.commands.specs.declared.command.Command.{Command as ReadCommand}
 use Rattle.commands.specs.declared.command.Command.the-variants as Is
 use Rattle.commands.specs.declared.command.Step.{Step}

@@ -19,7 +19,7 @@ use Rattle.fields.specs.Reader.{Got, got, stopped, Reader, Rule, first, onward,
 use Rattle.fields.specs.Fields as fields
 use Rattle.fields.specs.Fields.{Field, _holds_, Kind, opening, adding, revoking, requesting, approving, rejecting, telling-status, telling-page}
 use Rattle.fields.specs.Fields.{kind-of, tag-of, length-of, value-of, none-left, rules, field, number-field}
-use Rattle.fields.specs.Groups.{caller}
+use Rattle.field_values.specs.Groups.{caller}
 use Rattle.commands.specs.Commands.{Command, Read, command, end, stopped-by, read-by, contents, contents-of, fields-of, read-outer, read-command}
 use Rattle.commands.specs.Commands.{File, input-room, too-long, empty, file-by, read-from, read-all}
 use Rattle.commands.proofs.Progress.{passed, not-at-end, from-rules, nothing-left, progress}

@@ -8,8 +8,9 @@ use Rattle.machine.specs.Types.{Bytes}
 use Rattle.fields.specs.declared.fault.Stop.{Stop}
 use Rattle.fields.specs.declared.field.Span.{Span}
 use Rattle.fields.specs.Fields.{kind-of}
-use Rattle.fields.specs.Parts.{part-of, lent-from, Lies}
-use Rattle.fields.proofs.Holding.{drop-half}
+use Rattle.fields.specs.Parts.{part-of}
+use Rattle.field_values.specs.Held.{lent-from, Lies}
+use Rattle.field_values.proofs.Holding.{drop-half}
 use Rattle.fields.proofs.Parts.{length-part}
 use Rattle.commands.specs.declared.command.Command.{Command as ReadCommand}
 use Rattle.commands.specs.declared.command.Command.the-variants as Is

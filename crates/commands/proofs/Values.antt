@@ -10,7 +10,8 @@ use Rattle.fields.specs.declared.fault.Fault.{Fault}
 use Rattle.fields.specs.declared.fault.Stop.{Stop}
 use Rattle.fields.specs.Reader.{got, stopped}
 use Rattle.fields.specs.Fields.{Kind, kind-of, finish}
-use Rattle.fields.specs.Parts.{Halts, Cleared, lent-from}
+use Rattle.fields.specs.Parts.{Halts, Cleared}
+use Rattle.field_values.specs.Held.{lent-from}
 use Rattle.commands.specs.declared.command.Command.{Command as ReadCommand}
 use Rattle.commands.specs.declared.command.Step.the-variants as Step
 use Rattle.commands.specs.declared.command.Taken.{Taken}

@@ -20,7 +20,7 @@ use Rattle.fields.specs.Reader.{got}
 use Rattle.fields.specs.Fields.{Field, known, tag-of, length-of, value-of, wrong-length, bad-role, field, finish, _holds_, signer, key, account, text, role, time, request, limit}
 use Rattle.fields.specs.Fields.{number-field, time-field, role-field}
 use Rattle.fields.specs.Fields.{Kind, opening, adding, revoking, requesting, approving, rejecting, telling-status, telling-page, kind-tag, kind-of}
-use Rattle.fields.specs.Groups.{caller, message}
+use Rattle.field_values.specs.Groups.{caller, message}
 use Rattle.fields.proofs.Numbers.{written-read}
 use Rattle.fields.proofs.Rules as rule
 use Rattle.commands.specs.Writing.{tagged, number-written, key-written, role-written, time-written, text-written, caller-written, joined}

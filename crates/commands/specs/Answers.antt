@@ -16,7 +16,8 @@ use Rattle.fields.specs.Reader.{Reader, stopped}
 use Rattle.fields.specs.Fields.{Kind, kind-of}
 use Rattle.commands.specs.Commands.{Command, open-by, change, status-of, page-from, fields-of, contents-of}
 use Rattle.commands.specs.Commands.{Read, command, end, stopped-by, due, read-by, read-command}
-use Rattle.fields.specs.Parts.{Gives, no-key, by, lent-from, Lies}
+use Rattle.fields.specs.Parts.{Gives}
+use Rattle.field_values.specs.Held.{no-key, by, lent-from, Lies}
 
 -- no command: the fault, no key, no next place
 abbrev pub stopped-with : Stop → Taken

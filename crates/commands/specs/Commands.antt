@@ -13,7 +13,7 @@ use Rattle.fields.specs.declared.fault.Stop.{Stop}
 use Rattle.fields.specs.declared.fault.Fault.the-variants.{MissingField, UnknownField, InputTooLong}
 use Rattle.fields.specs.Reader.{Got, got, stopped, Reader, _>>=_, _>>_, done, if-any-byte-is-left, first, unless}
 use Rattle.fields.specs.Fields as fields
-use Rattle.fields.specs.Groups.{caller, message}
+use Rattle.field_values.specs.Groups.{caller, message}
 use Rattle.fields.specs.Fields.{Kind, opening, adding, revoking, requesting, approving, rejecting, telling-status, telling-page, kind-tag, kind-of}
 use Rattle.fields.specs.Fields.{length-of, value-of, tag-of, none-left, second-to-fifth, field, finish, number-field, time-field, role-field}
 

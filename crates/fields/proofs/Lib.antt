@@ -3,6 +3,4 @@ pub mod Numbers
 pub mod Parts
 pub mod Rules
 pub mod Fields
-pub mod Holding
-pub mod Sequences
 pub mod Tags

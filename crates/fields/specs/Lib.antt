@@ -2,5 +2,4 @@ pub mod Faults
 pub mod Numbers
 pub mod Reader
 pub mod Fields
-pub mod Groups
 pub mod Parts

@@ -1,33 +1,18 @@
-// Tagged fields of the command file, and the faults that stop a run. For the reader of commands. A value is lent with its offset in the input.
+// Tagged fields of the command file, and the faults that stop a run. For `field_values` and the reader of commands. A value is lent with its offset in the input.
 mod fault;
-mod field;
+pub mod field;
 mod number;
-mod typed;
 
 pub use fault::Fault;
 pub use fault::Stop;
 pub use fault::fault_name;
 pub use field::Ending;
+pub use field::Form;
 pub use field::Part;
 pub use field::Span;
 pub use field::Tag;
 pub use field::finish;
 pub use field::part_at;
 pub use field::tag_at;
-pub use typed::Called;
-pub use typed::Keyed;
-pub use typed::Next;
-pub use typed::Note;
-pub use typed::Noted;
-pub use typed::Number;
-pub use typed::Numbered;
-pub use typed::RoleHeld;
-pub use typed::Roled;
-pub use typed::Time;
-pub use typed::Timed;
-pub use typed::caller;
-pub use typed::key_field;
-pub use typed::message;
-pub use typed::number_field;
-pub use typed::role_field;
-pub use typed::time_field;
+pub use number::key_in;
+pub use number::number_in;

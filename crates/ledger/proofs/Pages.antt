@@ -12,8 +12,8 @@ use Rattle.answers.specs.Calls.{entries-call, told-call}
 use Rattle.answers.specs.Does.{Does}
 use Rattle.answers.specs.declared.Paged.{Paged}
 use Rattle.ids.proofs.Flags.{lt-or-ge}
-use Rattle.ledger_reads.proofs.Pages.{has-room, no-room, page-counted, page-full, page-more, size-is}
-use Rattle.ledger_reads.specs.Read.{SlotEntry, page-size}
+use Rattle.ledger_pages.proofs.Pages.{has-room, no-room, page-counted, page-full, page-more, size-is}
+use Rattle.ledger_pages.specs.Pages.{SlotEntry, page-size}
 use Rattle.machine.specs.Plan.{outcome}
 use Rattle.machine.specs.Reads.{entries, page-into}
 use Rattle.machine.specs.Types.{Ledger}

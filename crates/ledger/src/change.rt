@@ -86,9 +86,9 @@ pub fn approve(
         (tables (now (book .exit)) (now (keys .exit)) (now (texts .exit))) r ⌝ }
 {
     if !soundness::is_sound(book, keys, texts) {
-        return ledger_decisions::proof_refused(Refusal::Damaged);
+        return ledger_approvals::proof_refused(Refusal::Damaged);
     }
-    ledger_decisions::approve_sound(book, keys, texts, caller, request, action, time)
+    ledger_approvals::approve_sound(book, keys, texts, caller, request, action, time)
 }
 
 // Rejects a Pending request, under an approver's key of another account. Gives the request.
@@ -107,5 +107,5 @@ pub fn reject(
     if !soundness::is_sound(book, keys, texts) {
         return ledger_requests::request_refused(Refusal::Damaged);
     }
-    ledger_decisions::reject_sound(book, keys, texts, caller, request, time)
+    ledger_rejections::reject_sound(book, keys, texts, caller, request, time)
 }

@@ -25,7 +25,7 @@ fn page_of(
     if !soundness::is_sound(book, keys, texts) {
         return Paged::Refused(Refusal::Damaged);
     }
-    ledger_reads::page_room_sound(book, keys, texts, from, limit, room)
+    ledger_pages::page_room_sound(book, keys, texts, from, limit, room)
 }
 
 // How many entries an answer tells: none for a refusal.
@@ -56,7 +56,7 @@ pub fn approvals(
     let count = entries_of(answer);
     let mut k = 0;
     while k < count {
-        page[k] = ledger_reads::entry_sound(book, keys, texts, from, k);
+        page[k] = ledger_pages::entry_sound(book, keys, texts, from, k);
         k += 1;
     }
     answer
@@ -97,5 +97,5 @@ pub fn approvals_as_numbers(
     if !soundness::is_sound(book, keys, texts) {
         return Paged::Refused(Refusal::Damaged);
     }
-    ledger_reads::page_sound(book, keys, texts, from, limit, rows)
+    ledger_pages::page_sound(book, keys, texts, from, limit, rows)
 }

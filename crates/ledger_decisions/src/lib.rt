@@ -1,9 +1,2 @@
-// Requests approved and rejected, on tables that are given sound. For `ledger`, and for a run that checks once.
-mod approve;
-mod reject;
-mod store;
-mod told;
-
-pub use approve::approve_sound;
-pub use reject::reject_sound;
-pub use told::proof_refused;
+// What approving and rejecting share, on tables that are given sound: the decision stored. For `ledger_approvals` and `ledger_rejections`.
+pub mod store;

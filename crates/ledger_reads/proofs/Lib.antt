@@ -2,5 +2,3 @@
 pub mod Decided
 pub mod Requested
 pub mod Ended
-pub mod Slots
-pub mod Pages

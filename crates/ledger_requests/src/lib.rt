@@ -1,4 +1,4 @@
-// Requests, asked for and looked up, on tables that are given sound. For `ledger_decisions`, `ledger`, and a run that checks once.
+// Requests, asked for and looked up, on tables that are given sound. For `ledger_decisions` and the two above it, `ledger`, and a run that checks once.
 mod ask;
 mod decidable;
 mod told;

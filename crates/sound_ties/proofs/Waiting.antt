@@ -11,7 +11,7 @@ use mathlib.Core.List.{List}
 use Rattle.tables.specs.Parts.{cell}
 use Rattle.sound_ties.specs.Places.{Counts}
 use Rattle.sound_ties.proofs.Stored.{after-store}
-use Rattle.sound_rows.proofs.Tallied.{count-hit, count-le, count-miss}
+use Rattle.sound_log.proofs.Tallied.{count-hit, count-le, count-miss}
 
 -- whether request n waits under registration g
 abbrev waits-at : List (List ℕ) → List (List ℕ) → ℕ → ℕ → Bool

@@ -18,7 +18,7 @@ pub fn fit(book: &[[u64; 6]], keys: &[[u8; 32]], texts: &[u8]) -> bool
     if texts.len() != 32768 {
         return false;
     }
-    if !sound_rows::shapes::head_fits(book[0]) {
+    if !sound_keys::shapes::head_fits(book[0]) {
         return false;
     }
     if !regions::rows_fit(book, keys) {

@@ -1,7 +1,7 @@
 -- `acts::any::act` meets its contract, by cases of the command. Assumes nothing.
 use native.Mathlib.Omega.{arith}
 use Rattle.machine.specs.Types.{request, approve}
-use Rattle.fields.specs.Parts.{by}
+use Rattle.field_values.specs.Held.{by}
 use Rattle.commands.specs.Commands.{change}
 use Rattle.acts.proofs.Telling.{lent-part}
 use borrow.Author.Needs.{needs}

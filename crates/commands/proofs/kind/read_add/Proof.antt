@@ -2,7 +2,7 @@
 use borrow.Author.Needs.{needs}
 use Rattle.fields.specs.Fields.{adding, account, signer, key, field, number-field, role-field}
 use Rattle.fields.specs.Parts.{Gives}
-use Rattle.fields.proofs.Sequences.{within}
+use Rattle.field_values.proofs.Sequences.{within}
 use Rattle.commands.specs.Commands.{fields-of}
 use Rattle.commands.proofs.Contents.{halted}
 use Rattle.commands.proofs.kind.read_add.Statement.{statement}

@@ -6,7 +6,7 @@ use Rattle.machine.specs.Rooms.{default-page}
 use Rattle.fields.specs.Fields.{telling-page, from, limit, number-field}
 use Rattle.commands.specs.Commands.{fields-of}
 use Rattle.fields.specs.Parts.{Gives}
-use Rattle.fields.proofs.Sequences.{within, by-default, given, given-wrong}
+use Rattle.field_values.proofs.Sequences.{within, by-default, given, given-wrong}
 use Rattle.commands.proofs.Contents.{halted}
 use Rattle.commands.proofs.kind.read_page.Statement.{statement}
 use Rattle.commands.proofs.kind.read_page.Tie as tie

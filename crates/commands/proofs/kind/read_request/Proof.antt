@@ -1,9 +1,10 @@
 -- `commands::kind::read_request` meets its contract: what is read on the way is the table's, in its order. Assumes nothing.
 use borrow.Author.Needs.{needs}
 use Rattle.fields.specs.Fields.{requesting}
-use Rattle.fields.specs.Groups.{caller}
-use Rattle.fields.specs.Parts.{Gives, by, Noting}
-use Rattle.fields.proofs.Sequences.{within}
+use Rattle.field_values.specs.Groups.{caller}
+use Rattle.fields.specs.Parts.{Gives}
+use Rattle.field_values.specs.Held.{by, Noting}
+use Rattle.field_values.proofs.Sequences.{within}
 use Rattle.commands.specs.Commands.{fields-of}
 use Rattle.commands.proofs.Contents.{halted}
 use Rattle.commands.proofs.kind.read_request.Statement.{statement}

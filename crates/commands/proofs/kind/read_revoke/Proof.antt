@@ -1,8 +1,9 @@
 -- `commands::kind::read_revoke` meets its contract: what is read on the way is the table's, in its order. Assumes nothing.
 use borrow.Author.Needs.{needs}
 use Rattle.fields.specs.Fields.{revoking, signer, key, field, number-field}
-use Rattle.fields.specs.Parts.{Gives, Timing}
-use Rattle.fields.proofs.Sequences.{within}
+use Rattle.fields.specs.Parts.{Gives}
+use Rattle.field_values.specs.Held.{Timing}
+use Rattle.field_values.proofs.Sequences.{within}
 use Rattle.commands.specs.Commands.{fields-of}
 use Rattle.commands.proofs.Contents.{halted}
 use Rattle.commands.proofs.kind.read_revoke.Statement.{statement}

@@ -1,7 +1,7 @@
 -- `commands::reader::read_value` meets its contract: the fields of the kind, and then the end. Assumes nothing.
 use native.Mathlib.Omega.{arith}
 use borrow.Author.Needs.{needs}
-use Rattle.fields.proofs.Sequences.{within}
+use Rattle.field_values.proofs.Sequences.{within}
 use Rattle.commands.specs.Commands.{fields-of}
 use Rattle.commands.specs.Answers.{Whole}
 use Rattle.commands.proofs.Values.{never-ends, halts, whole, stray, done}

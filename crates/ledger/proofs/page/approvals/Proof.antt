@@ -58,10 +58,10 @@ use Rattle.answers.specs.Answers.{entry-count}
 use Rattle.answers.specs.Calls.{told-call}
 use Rattle.answers.specs.Does.{Does}
 use Rattle.answers.specs.declared.Paged.{Paged}
-use Rattle.ledger_reads.proofs.entry_sound.Symbol as entry-sound-def
-use Rattle.ledger_reads.proofs.entry_sound.Symbol.{name as #ledger-reads·entry-sound}
-use Rattle.ledger_reads.proofs.entry_sound.Met as entry-sound-thm
-use Rattle.ledger_reads.specs.Read.{SlotEntry}
+use Rattle.ledger_pages.proofs.entry_sound.Symbol as entry-sound-def
+use Rattle.ledger_pages.proofs.entry_sound.Symbol.{name as #ledger-pages·entry-sound}
+use Rattle.ledger_pages.proofs.entry_sound.Met as entry-sound-thm
+use Rattle.ledger_pages.specs.Pages.{SlotEntry}
 use Rattle.ledger.proofs.Lent.{Key, Lent, Owned, Row, Tokens, book-val, books, keys-val, keyses, tables-of, texts-val, textses, twice, word}
 use Rattle.ledger.proofs.Pages.{fill-asks, fill-long, fill-more, fill-none, fill-room, fill-whole, turned}
 use Rattle.ledger.proofs.page.entries_of.Symbol as entries-of-def
@@ -147,7 +147,7 @@ module _ {M : Type 1} (𝓤 : URA M) (H : Heap 𝓤) (A : Atoms 𝓤) (W : Given
   typed r v is = EL.lawful P.the-type P′.the-laws 𝓤 H A W tt .typed r _ is .0
 
   module _ (𝓣 : Tables 𝓤 H) (known-page : Triple 𝓤 (𝓣 .C #ledger·page·page-of) (PageOf 𝓤 H A mem run)) (known-count : Triple 𝓤 (𝓣 .C #ledger·page·entries-of) (EntriesOf 𝓤 H A mem run))
-      (known-entry : Triple 𝓤 (𝓣 .C #ledger-reads·entry-sound) (EntrySound 𝓤 H A mem run)) (l₀ l₁ l₂ l₃ l₄ l₅ l₆ l₇ l₈ l₉ l₁₀ l₁₁ l₁₂ l₁₃ l₁₄ : ℕ) where
+      (known-entry : Triple 𝓤 (𝓣 .C #ledger-pages·entry-sound) (EntrySound 𝓤 H A mem run)) (l₀ l₁ l₂ l₃ l₄ l₅ l₆ l₇ l₈ l₉ l₁₀ l₁₁ l₁₂ l₁₃ l₁₄ : ℕ) where
     abbrev C : Calls 𝓤 H
     C = 𝓣 .C
 
@@ -343,7 +343,7 @@ module _ {M : Type 1} (𝓤 : URA M) (H : Heap 𝓤) (A : Atoms 𝓤) (W : Given
         keep ! (0 ∷ 18 ∷ 14 ∷ 12 ∷ 10 ∷ 8 ∷ 34 ∷ 32 ∷ 30 ∷ 28 ∷ 26 ∷ 24 ∷ 22 ∷ 20 ∷ 16 ∷ 36 ∷ 1 ∷ 2 ∷ 3 ∷ 5 ∷ 6 ∷ 37 ∷ 35 ∷ 33 ∷ 31 ∷ 29 ∷ 27 ∷ 25 ∷ 23 ∷ 21 ∷ 19 ∷ 17 ∷ 15 ∷ 13 ∷ 11 ∷ 9 ∷ []) $ by ! asks
 
   -- the MIR from its entry
-  walk : (𝓣 : Tables 𝓤 H) → Triple 𝓤 (𝓣 .C #ledger·page·page-of) (PageOf 𝓤 H A mem run) → Triple 𝓤 (𝓣 .C #ledger·page·entries-of) (EntriesOf 𝓤 H A mem run) → Triple 𝓤 (𝓣 .C #ledger-reads·entry-sound) (EntrySound 𝓤 H A mem run)
+  walk : (𝓣 : Tables 𝓤 H) → Triple 𝓤 (𝓣 .C #ledger·page·page-of) (PageOf 𝓤 H A mem run) → Triple 𝓤 (𝓣 .C #ledger·page·entries-of) (EntriesOf 𝓤 H A mem run) → Triple 𝓤 (𝓣 .C #ledger-pages·entry-sound) (EntrySound 𝓤 H A mem run)
       → Room Row (length (t .book .now)) → Room Key (length (t .keys .now)) → Room u8 (length (t .texts .now))
       → ent 𝓤 (onEntry 𝓤 H A approvals.signature κs qs a at) (WpFn 𝓤 H (𝓣 .C) (𝓣 .Λ) fn (book-val t ∷ keys-val t ∷ texts-val t ∷ vint w64 start ∷ vint w64 limit ∷ s ∷ []) Post)
   walk 𝓣 known-page known-count known-entry room₀ room₁ room₂ =
@@ -354,7 +354,7 @@ module _ {M : Type 1} (𝓤 : URA M) (H : Heap 𝓤) (A : Atoms 𝓤) (W : Given
       pass1 ! (init ! 20 refl (tt, record { fits = start-fits })) $ pass1 ! (init ! 18 refl (tt, record { fits = limit-fits })) $ pass1 ! (init ! 16 refl (tt, (tt, (record { fits = room .0 }, tt)))) $ pass0 ! $
       by ! (opens 𝓣 known-page known-count known-entry l₀ l₁ l₂ l₃ l₄ l₅ l₆ l₇ l₈ l₉ l₁₀ l₁₁ l₁₂ l₁₃ l₁₄))))))))))))))))
 
-module _ {M : Type 1} (𝓤 : URA M) (H : Heap 𝓤) (A : Atoms 𝓤) (W : Given 𝓤 H A) (mem : Memory → SProp 𝓤) (run : Routine → Fun 𝓤) (𝓣 : Tables 𝓤 H) (known-page : Triple 𝓤 (𝓣 .C #ledger·page·page-of) (PageOf 𝓤 H A mem run)) (known-count : Triple 𝓤 (𝓣 .C #ledger·page·entries-of) (EntriesOf 𝓤 H A mem run)) (known-entry : Triple 𝓤 (𝓣 .C #ledger-reads·entry-sound) (EntrySound 𝓤 H A mem run)) where
+module _ {M : Type 1} (𝓤 : URA M) (H : Heap 𝓤) (A : Atoms 𝓤) (W : Given 𝓤 H A) (mem : Memory → SProp 𝓤) (run : Routine → Fun 𝓤) (𝓣 : Tables 𝓤 H) (known-page : Triple 𝓤 (𝓣 .C #ledger·page·page-of) (PageOf 𝓤 H A mem run)) (known-count : Triple 𝓤 (𝓣 .C #ledger·page·entries-of) (EntriesOf 𝓤 H A mem run)) (known-entry : Triple 𝓤 (𝓣 .C #ledger-pages·entry-sound) (EntrySound 𝓤 H A mem run)) where
   approvals-walks : Walks 𝓤 H A approvals.ended stayed (WpFn 𝓤 H (𝓣 .C) (𝓣 .Λ) code.function) (approvals.clauses 𝓤 H A mem run)
   approvals-walks = walked 𝓤 H A approvals.ended stayed (approvals.clauses 𝓤 H A mem run) (WpFn 𝓤 H (𝓣 .C) (𝓣 .Λ) code.function)
       (λ κs. (slice-vals, (slice-vals, (slice-vals, (uint-vals w64, (uint-vals w64, (slice-vals, tt)))))))
@@ -387,4 +387,4 @@ approvals-spec 𝓤 H 𝓜 𝓖 𝓡 =
     (approvals-meets 𝓤 H (𝓖 .A) (givenOf 𝓤 H 𝓜 𝓖) (𝓜 .mem) (𝓡 .run) (tablesOf 𝓤 H 𝓜 (tables 𝓤 H 𝓜 𝓡 code.env))
     (cited 𝓤 H (PageOf 𝓤 H (𝓖 .A) (𝓜 .mem) (𝓡 .run)) 𝓜 𝓡 code.env #ledger·page·page-of page-of-def.routine code.calls-ledger·page·page-of (page-of-thm.met 𝓤 H 𝓜 𝓖 𝓡))
     (cited 𝓤 H (EntriesOf 𝓤 H (𝓖 .A) (𝓜 .mem) (𝓡 .run)) 𝓜 𝓡 code.env #ledger·page·entries-of entries-of-def.routine code.calls-ledger·page·entries-of (entries-of-thm.met 𝓤 H 𝓜 𝓖 𝓡))
-    (cited 𝓤 H (EntrySound 𝓤 H (𝓖 .A) (𝓜 .mem) (𝓡 .run)) 𝓜 𝓡 code.env #ledger-reads·entry-sound entry-sound-def.routine code.calls-ledger-reads·entry-sound (entry-sound-thm.met 𝓤 H 𝓜 𝓖 𝓡)))
+    (cited 𝓤 H (EntrySound 𝓤 H (𝓖 .A) (𝓜 .mem) (𝓡 .run)) 𝓜 𝓡 code.env #ledger-pages·entry-sound entry-sound-def.routine code.calls-ledger-pages·entry-sound (entry-sound-thm.met 𝓤 H 𝓜 𝓖 𝓡)))

@@ -6,7 +6,7 @@ use mathlib.Core.Bool.{true}
 use native.Mathlib.Omega.{arith}
 use Rattle.ids.proofs.Flags.{confirmed, fails, holds, refuted}
 use Rattle.sound_ties.proofs.Agreed.{Agreed, agreed-own, agreed-younger, lived-of, of-lived, older-fault, own-fault, own-place}
-use Rattle.sound_rows.proofs.Passed.{Passed, passed-all, passed-more, passed-none}
+use Rattle.sound_keys.proofs.Passed.{Passed, passed-all, passed-more, passed-none}
 use Rattle.sound_ties.specs.Places.{Younger}
 use Rattle.sound_ties.proofs.lives.lived.Statement.{statement}
 use Rattle.sound_ties.proofs.lives.lived.Tie as tie

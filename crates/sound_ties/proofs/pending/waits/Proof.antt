@@ -4,7 +4,7 @@ use Prim.Native.Nat.{_-_}
 use borrow.Author.Needs.{needs}
 use native.Mathlib.Omega.{arith}
 use Rattle.ids.proofs.Flags.{holds}
-use Rattle.sound_rows.proofs.Passed.{Passed, passed-all, passed-fault, passed-more, passed-none}
+use Rattle.sound_keys.proofs.Passed.{Passed, passed-all, passed-fault, passed-more, passed-none}
 use Rattle.tables.specs.Fit.{waiting}
 use Rattle.tables.specs.Parts.{cell}
 use Rattle.sound_ties.proofs.pending.waits.Statement.{statement}

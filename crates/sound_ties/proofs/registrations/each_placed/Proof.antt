@@ -5,7 +5,7 @@ use Prim.Native.Nat.{_-_}
 use borrow.Author.Needs.{needs}
 use lib.ListN.{getD}
 use Rattle.ids.proofs.Flags.{holds}
-use Rattle.sound_rows.proofs.Passed.{Passed, passed-all, passed-fault, passed-more, passed-none}
+use Rattle.sound_keys.proofs.Passed.{Passed, passed-all, passed-fault, passed-more, passed-none}
 use Rattle.tables.specs.Parts.{cell}
 use Rattle.sound_ties.proofs.registrations.each_placed.Statement.{statement}
 use Rattle.sound_ties.proofs.registrations.each_placed.Tie as tie

@@ -28,8 +28,8 @@ use Rattle.answers.specs.Answers.{entry-count}
 use Rattle.answers.specs.Calls.{told-call}
 use Rattle.answers.specs.Does.{Does}
 use Rattle.answers.specs.declared.Paged.{Paged}
-use Rattle.ledger_reads.proofs.entry_sound as entry-sound
-use Rattle.ledger_reads.specs.Read.{SlotEntry}
+use Rattle.ledger_pages.proofs.entry_sound as entry-sound
+use Rattle.ledger_pages.specs.Pages.{SlotEntry}
 use Rattle.ledger.proofs.Lent.{Lent, Owned, Tokens, book-val, keys-val, tables-of, texts-val}
 use Rattle.ledger.proofs.page.entries_of as entries-of
 use Rattle.ledger.proofs.page.page_of as page-of

@@ -1,0 +1,3 @@
+-- Laws of fields by what they hold, and of readers one after the other.
+pub mod Holding
+pub mod Sequences
