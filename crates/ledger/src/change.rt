@@ -49,7 +49,7 @@ pub fn revoke_key(
     if !soundness::is_sound(book, keys, texts) {
         return Registered::Refused(Refusal::Damaged);
     }
-    ledger_keys::revoke_sound(book, keys, texts, caller, key, time)
+    ledger_revocations::revoke_sound(book, keys, texts, caller, key, time)
 }
 
 // Asks for an action, under an agent's key. Gives the request.

@@ -16,7 +16,7 @@ use Rattle.ledger_decisions.proofs.Laying.{book-laid, head-kept, keys-laid, log
 use Rattle.ledger_decisions.proofs.Picked.{does, not-authentic, not-decidable, refuses}
 use Rattle.ledger_approvals.specs.Recorded.{proof-told}
 use Rattle.ledger_decisions.specs.Stores.{settled}
-use Rattle.ledger_keys.specs.Authenticates.{Authenticates}
+use Rattle.ledger_callers.specs.Authenticates.{Authenticates}
 use Rattle.ledger_requests.proofs.Cells.{asked-cell, holder-cell, logged-is}
 use Rattle.ledger_requests.specs.Candidates.{MayDecide}
 use Rattle.lists.specs.Places.{At}
@@ -41,7 +41,7 @@ use Rattle.tables.proofs.Stored.{stored}
 use Rattle.tables.specs.Parts.{cell, log-count}
 use Rattle.tables.specs.Tables.{Stands, Tables, bookOf, decidedRow, headRow, logRow, tables}
 use Rattle.answers.specs.declared.Answer.the-variants as Answer
-use Rattle.ledger_keys.specs.declared.Auth.the-variants as Auth
+use Rattle.ledger_callers.specs.declared.Auth.the-variants as Auth
 use Rattle.ledger_requests.specs.declared.decidable.Decidable.the-variants as Decidable
 
 -- the part of the text table that code compares

@@ -10,7 +10,7 @@ use native.Mathlib.Omega.{arith}
 use Rattle.answers.proofs.Doing.{part-did, part-refused}
 use Rattle.answers.specs.Calls.{change-call}
 use Rattle.answers.specs.Does.{Part}
-use Rattle.ledger_keys.specs.Authenticates.{Authenticates}
+use Rattle.ledger_callers.specs.Authenticates.{Authenticates}
 use Rattle.ledger_requests.proofs.Cells.{asked-cell, holder-cell, logged-is, place-in}
 use Rattle.ledger_requests.specs.Candidates.{MayDecide}
 use Rattle.lists.proofs.Places.{at-lt}
@@ -34,7 +34,7 @@ use Rattle.tables.proofs.Rows.{requests-room}
 use Rattle.tables.proofs.Stored.{lengths}
 use Rattle.tables.specs.Parts.{cell, log-count}
 use Rattle.tables.specs.Tables.{Sized, Standing, Stands, Tables, tablesOf}
-use Rattle.ledger_keys.specs.declared.Auth.the-variants as Auth
+use Rattle.ledger_callers.specs.declared.Auth.the-variants as Auth
 use Rattle.ledger_requests.specs.declared.decidable.Decidable.the-variants as Decidable
 
 -- request n, undecided, live under the key at place i; the caller's key at place b

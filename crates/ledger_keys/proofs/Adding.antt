@@ -14,7 +14,7 @@ use Rattle.answers.specs.Calls.{add-call}
 use Rattle.answers.specs.Does.{Part}
 use Rattle.answers.specs.declared.Registered.{Registered}
 use Rattle.ids.specs.declared.Account.{Account}
-use Rattle.ledger_keys.proofs.Within.{Counts, counts, is-owner, no-owner}
+use Rattle.ledger_callers.proofs.Within.{Counts, counts, is-owner, no-owner}
 use Rattle.ledger_keys.specs.Registrations.{principal-in}
 use Rattle.lists.proofs.Maps.{map-snoc}
 use Rattle.lists.proofs.Places.{length-snoc}

@@ -1,4 +1,2 @@
-pub mod Within
-pub mod Authentication
+-- What the tests and stores of a registration say of the ledger in the tables.
 pub mod Adding
-pub mod Revoking

@@ -1,2 +1,1 @@
-pub mod Authenticates
 pub mod Registrations

@@ -14,7 +14,7 @@ use Rattle.ids.specs.declared.RequestId.{RequestId}
 use Rattle.ledger_decisions.proofs.Laying.{book-laid, keys-laid, texts-laid}
 use Rattle.ledger_decisions.proofs.Picked.{does, not-authentic, not-decidable, refuses}
 use Rattle.ledger_decisions.specs.Stores.{settled}
-use Rattle.ledger_keys.specs.Authenticates.{Authenticates}
+use Rattle.ledger_callers.specs.Authenticates.{Authenticates}
 use Rattle.ledger_requests.proofs.Cells.{asked-cell, holder-cell}
 use Rattle.ledger_requests.specs.Candidates.{MayDecide}
 use Rattle.ledger_requests.specs.Recorded.{request-told}
@@ -35,7 +35,7 @@ use Rattle.tables.proofs.Stored.{stored}
 use Rattle.tables.specs.Parts.{cell}
 use Rattle.tables.specs.Tables.{Stands, Tables, decidedRow, tables}
 use Rattle.answers.specs.declared.Answer.the-variants as Answer
-use Rattle.ledger_keys.specs.declared.Auth.the-variants as Auth
+use Rattle.ledger_callers.specs.declared.Auth.the-variants as Auth
 use Rattle.ledger_requests.specs.declared.decidable.Decidable.the-variants as Decidable
 use Rattle.records.specs.declared.Mark.the-variants as Mark
 

@@ -11,7 +11,7 @@ use Rattle.answers.specs.Answers.{requested}
 use Rattle.answers.specs.Calls.{request-call}
 use Rattle.answers.specs.Does.{Part}
 use Rattle.answers.specs.declared.Requested.{Requested}
-use Rattle.ledger_keys.specs.Authenticates.{Authenticates}
+use Rattle.ledger_callers.specs.Authenticates.{Authenticates}
 use Rattle.ledger_requests.proofs.Cells.{count-is, holder-cell, used-is}
 use Rattle.ledger_requests.proofs.Laying.{request-laid}
 use Rattle.ledger_requests.specs.Recorded.{request-told}
@@ -35,7 +35,7 @@ use Rattle.rows.specs.Zeros.{zeroKey, zeroRow}
 use Rattle.tables.specs.Parts.{cell, request-count, text-used}
 use Rattle.tables.specs.Tables.{Stands, Tables, askedRow, holderRow, tables}
 use Rattle.answers.specs.declared.Answer.the-variants as Answer
-use Rattle.ledger_keys.specs.declared.Auth.the-variants as Auth
+use Rattle.ledger_callers.specs.declared.Auth.the-variants as Auth
 use Rattle.records.specs.declared.Mark.the-variants as Mark
 
 module _ (c : Caller) (text : Bytes) (time : BlockTime) where

@@ -3,7 +3,7 @@ use borrow.Author.Needs.{needs}
 use lib.ListN.{length-set}
 use native.Mathlib.Omega.{arith}
 use Rattle.ledger_keys.proofs.Adding.{added, already, keys-full, log-full, not-owner}
-use Rattle.ledger_keys.proofs.Within.{within}
+use Rattle.ledger_callers.proofs.Within.{within}
 use Rattle.rows.specs.Finds.{Missing}
 use Rattle.tables.specs.Parts.{key-count}
 use Rattle.tables.specs.Tables.{Tables, tables}

@@ -5,11 +5,11 @@ use mathlib.Core.Path.{refl}
 use Rattle.ids.proofs.Flags.{confirmed, refuted}
 use Rattle.ledger_approvals.proofs.Approving.{approves, mismatch, self, stranger, undecidable}
 use Rattle.ledger_decisions.proofs.Picked.{Ready, agent-in, agent-size, agent-sum, asked-in, asked-size, asked-sum, by-in, by-size, by-sum, head-in, ready, slot-in, slot-next, slot-size, slot-sum, text-end, text-sum}
-use Rattle.ledger_keys.specs.Authenticates.{Authenticates}
+use Rattle.ledger_callers.specs.Authenticates.{Authenticates}
 use Rattle.ledger_requests.specs.Candidates.{MayDecide}
 use Rattle.records.specs.declared.Role.the-variants.{Approver}
 use Rattle.tables.specs.Tables.{Tables, tables}
-use Rattle.ledger_keys.specs.declared.Auth.the-variants as Auth
+use Rattle.ledger_callers.specs.declared.Auth.the-variants as Auth
 use Rattle.ledger_requests.specs.declared.decidable.Decidable.the-variants as Decidable
 use borrow.Author.Needs.{needs}
 use Rattle.ledger_approvals.proofs.approve.approve_sound.Statement.{statement}

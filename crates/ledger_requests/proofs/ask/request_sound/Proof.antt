@@ -1,14 +1,14 @@
 -- `ledger_requests::ask::request_sound` meets its contract: each answer by the tests before it. Assumes nothing.
 use Prim.Native.Nat.{_<_}
 use native.Mathlib.Omega.{arith}
-use Rattle.ledger_keys.specs.Authenticates.{Authenticates}
+use Rattle.ledger_callers.specs.Authenticates.{Authenticates}
 use Rattle.ledger_requests.proofs.Asking.{asks-for, empty, full, not-authentic, text-full, too-long, too-many}
 use Rattle.ledger_requests.proofs.Cells.{place-in}
 use Rattle.machine.specs.Rooms.{key-room}
 use Rattle.records.specs.declared.Role.the-variants.{Agent}
 use Rattle.tables.proofs.Within.{within}
 use Rattle.tables.specs.Tables.{Tables, tables}
-use Rattle.ledger_keys.specs.declared.Auth.the-variants as Auth
+use Rattle.ledger_callers.specs.declared.Auth.the-variants as Auth
 use borrow.Author.Needs.{needs}
 use Rattle.ledger_requests.proofs.ask.request_sound.Statement.{statement}
 use Rattle.ledger_requests.proofs.ask.request_sound.Tie as tie

@@ -5,7 +5,7 @@ use borrow.Author.Tests.{eq-eqb, ne-eqb}
 use lib.ListN.{getD}
 use mathlib.Core.List.{List}
 use native.Mathlib.Omega.{arith}
-use Rattle.ledger_keys.specs.Authenticates.{Authenticates}
+use Rattle.ledger_callers.specs.Authenticates.{Authenticates}
 use Rattle.machine.specs.Types.{Ledger}
 use Rattle.records.specs.Roles.{role-number}
 use Rattle.records.specs.declared.Caller.{Caller}
@@ -17,7 +17,7 @@ use Rattle.tables.proofs.Seeks.{Sought, seek-found, seek-missing}
 use Rattle.tables.specs.Parts.{cell, key-count}
 use Rattle.tables.specs.Tables.{Stands, Tables, holderRow}
 use Rattle.rows.specs.declared.Found.the-variants as Found
-use Rattle.ledger_keys.specs.declared.Auth.the-variants as Auth
+use Rattle.ledger_callers.specs.declared.Auth.the-variants as Auth
 
 module _ (t : Tables) (caller : Caller) (role : Role) where
   pub indirect : (caller .predecessor .0 ≡ caller .signer .0 → ⊥) → Authenticates t caller role (Auth.Refused IndirectCall)

@@ -1,15 +1,15 @@
--- `ledger_keys::revoke_sound` meets its contract: each answer by the tests on its way, and the stores take the registration out. Assumes nothing.
+-- `ledger_revocations::revoke_sound` meets its contract: each answer by the tests on its way, and the stores take the registration out. Assumes nothing.
 use borrow.Author.Needs.{needs}
 use lib.ListN.{length-set}
 use native.Mathlib.Omega.{arith}
-use Rattle.ledger_keys.proofs.Revoking.{not-owner, not-registered, revoked}
-use Rattle.ledger_keys.proofs.Within.{Placed, placed-at, within}
+use Rattle.ledger_revocations.proofs.Revoking.{not-owner, not-registered, revoked}
+use Rattle.ledger_callers.proofs.Within.{Placed, placed-at, within}
 use Rattle.rows.specs.Finds.{Finds}
 use Rattle.tables.specs.Parts.{key-count}
 use Rattle.tables.specs.Tables.{Tables, tables}
 use Rattle.rows.specs.declared.Found.the-variants as Found
-use Rattle.ledger_keys.proofs.revoke_sound.Statement.{statement}
-use Rattle.ledger_keys.proofs.revoke_sound.Tie as tie
+use Rattle.ledger_revocations.proofs.revoke_sound.Statement.{statement}
+use Rattle.ledger_revocations.proofs.revoke_sound.Tie as tie
 
 -- the tables that are lent
 abbrev lent : tie.Start → Tables

@@ -12,8 +12,8 @@ use Rattle.answers.specs.Calls.{revoke-call}
 use Rattle.answers.specs.Does.{Part}
 use Rattle.answers.specs.declared.Registered.{Registered}
 use Rattle.ids.specs.declared.Account.{Account}
-use Rattle.ledger_keys.proofs.Within.{Counts, counts, is-owner, no-owner}
+use Rattle.ledger_callers.proofs.Within.{Counts, counts, is-owner, no-owner}
 use Rattle.ledger_keys.specs.Registrations.{principal-in}
 use Rattle.lists.proofs.Maps.{at-map, map-erase}
 use Rattle.lists.proofs.Places.{at-lt, length-erase}
 use Rattle.lists.specs.Places.{At}

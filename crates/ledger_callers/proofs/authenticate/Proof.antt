@@ -1,15 +1,15 @@
--- `ledger_keys::authenticate` meets its contract: each answer by the tests on its way. Assumes nothing.
+-- `ledger_callers::authenticate` meets its contract: each answer by the tests on its way. Assumes nothing.
 use mathlib.Core.Path.{_∙_, sym}
 use borrow.Author.Needs.{needs}
 use native.Mathlib.Omega.{arith}
-use Rattle.ledger_keys.proofs.Authentication.{authentic, indirect, mismatch, unknown, wrong-role}
-use Rattle.ledger_keys.proofs.Within.{Placed, placed-at, within}
+use Rattle.ledger_callers.proofs.Authentication.{authentic, indirect, mismatch, unknown, wrong-role}
+use Rattle.ledger_callers.proofs.Within.{Placed, placed-at, within}
 use Rattle.rows.specs.Finds.{Finds}
 use Rattle.tables.specs.Parts.{key-count}
 use Rattle.tables.specs.Tables.{Tables, tables}
 use Rattle.rows.specs.declared.Found.the-variants as Found
-use Rattle.ledger_keys.proofs.authenticate.Statement.{statement}
-use Rattle.ledger_keys.proofs.authenticate.Tie as tie
+use Rattle.ledger_callers.proofs.authenticate.Statement.{statement}
+use Rattle.ledger_callers.proofs.authenticate.Tie as tie
 
 -- the tables that are lent
 abbrev lent : tie.Start → Tables

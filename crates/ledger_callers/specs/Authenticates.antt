@@ -1,6 +1,6 @@
 -- What `authenticate` answers, by cases: the machine's authentication of whatever sound ledger the tables hold. Assumes nothing.
 use mathlib.Core.Path.{_≡_}
-use Rattle.ledger_keys.specs.declared.Auth.{Auth}
+use Rattle.ledger_callers.specs.declared.Auth.{Auth}
 use Rattle.lists.specs.Places.{At}
 use Rattle.machine.specs.Machine.{authenticate}
 use Rattle.machine.specs.Plan.{did, outcome, refused}
@@ -8,7 +8,7 @@ use Rattle.machine.specs.Types.{Holder, Ledger}
 use Rattle.records.specs.declared.Caller.{Caller}
 use Rattle.records.specs.declared.Role.{Role}
 use Rattle.tables.specs.Tables.{Stands, Tables}
-use Rattle.ledger_keys.specs.declared.Auth.the-variants as Auth
+use Rattle.ledger_callers.specs.declared.Auth.the-variants as Auth
 
 -- the key at place i is the caller's, in that role; or the machine's refusal
 abbrev pub Authenticates : Tables → Caller → Role → Auth → Type 0
