@@ -113,6 +113,11 @@ fn caller(c: &Caller) -> Vec<Vec<u8>> {
 }
 
 impl Command {
+    // A command that changes no table, refused or not.
+    pub fn reads(&self) -> bool {
+        matches!(self, Command::Status { .. } | Command::Page { .. })
+    }
+
     pub fn kind(&self) -> u8 {
         match self {
             Command::Open { .. } => OPEN,

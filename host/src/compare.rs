@@ -11,6 +11,7 @@ use crate::replay::{line, replay, Desk, Tally};
 use crate::sound;
 use crate::subject::Subject;
 use std::fmt::Debug;
+use std::rc::Rc;
 
 pub type Verdict = Result<(), String>;
 
@@ -49,8 +50,14 @@ impl Seen {
 pub struct Comparer<S: Subject> {
     pub ours: S,
     pub seen: Seen,
-    used: Tables,
+    used: Rc<Tables>,
     out: Vec<u8>,
+}
+
+// Between two commands: the tables as they must be, and the ledger that ours show, once it was asked for; both stand until a change.
+struct Now {
+    tables: Tables,
+    shown: Option<Result<MemStore, sound::Clause>>,
 }
 
 // Tables of the right lengths that were in use for something else.
@@ -74,37 +81,32 @@ impl<S: Subject> Comparer<S> {
         Comparer {
             ours,
             seen: Seen::default(),
-            used: used_tables(),
+            used: Rc::new(used_tables()),
             out: vec![UNWRITTEN; OUT_ROOM],
         }
     }
 
     // A whole file in one call, on tables that were in use.
     pub fn whole_file(&mut self, input: &[u8]) -> Verdict {
-        self.ours.load(&self.used);
-        self.file_on_lent(input)
+        let used = Rc::clone(&self.used);
+        self.file_on(&used, input)
     }
 
-    // The same on tables of any lengths and contents.
+    // The same on tables of any lengths and contents: the file's lines, and the tables afterwards.
     pub fn file_on(&mut self, tables: &Tables, input: &[u8]) -> Verdict {
         self.ours.load(tables);
-        self.file_on_lent(input)
-    }
-
-    // The file's lines, and the tables afterwards.
-    fn file_on_lent(&mut self, input: &[u8]) -> Verdict {
         if let (_, Some(stop)) = read_all(input) {
             self.seen.faults[stop.fault as usize] += 1;
         }
-        let before = self.ours.tables().clone();
         let mut desk = Desk {
-            sized: before.sized(),
+            sized: tables.sized(),
             store: None,
         };
         let lines = replay(input, &mut desk);
         self.replayed(input, &lines)?;
-        let after = desk.store.as_ref().map_or(before, encode);
-        same_tables("after the file", self.ours.tables(), &after)
+        let after = desk.store.as_ref().map(encode);
+        let after = after.as_ref().unwrap_or(tables);
+        same_tables("after the file", self.ours.tables(), after)
     }
 
     fn replayed(&mut self, input: &[u8], lines: &[u8]) -> Verdict {
@@ -124,10 +126,13 @@ impl<S: Subject> Comparer<S> {
         let (commands, _) = read_all(input);
         let mut desk = Desk::unopened();
         self.ours.load(&self.used);
-        let mut tables = self.used.clone();
+        let mut now = Now {
+            tables: Tables::clone(&self.used),
+            shown: None,
+        };
         let mut tally = Tally::default();
         for command in &commands {
-            let step = self.one_command(command, &mut desk, &mut tables, tally.commands);
+            let step = self.one_command(command, &mut desk, &mut now, tally.commands);
             let outcome = step.map_err(|e| format!("command {}: {e}", tally.commands))?;
             tally.count(outcome.accepted());
         }
@@ -171,7 +176,7 @@ impl<S: Subject> Comparer<S> {
         &mut self,
         command: &Command,
         desk: &mut Desk,
-        tables: &mut Tables,
+        now: &mut Now,
         index: u64,
     ) -> Result<Outcome, String> {
         let mut rows = vec![BLANK_ROW; MAX_PAGE_SIZE as usize + 1];
@@ -183,20 +188,20 @@ impl<S: Subject> Comparer<S> {
         same("the lent rows", &our_rows, &rows)?;
         let our_line = line(index, command, ours, &our_rows);
         same("the line", &our_line, &line(index, command, theirs, &rows))?;
-        if theirs.accepted() {
-            *tables = desk.store.as_ref().map_or_else(Tables::zero, encode);
+        if theirs.accepted() && !command.reads() {
+            now.tables = desk.store.as_ref().map_or_else(Tables::zero, encode);
+            now.shown = None;
         }
-        same_tables("after the command", self.ours.tables(), tables)?;
-        self.shows_the_same(desk)?;
+        same_tables("after the command", self.ours.tables(), &now.tables)?;
+        let shown = now
+            .shown
+            .get_or_insert_with(|| sound::decode(self.ours.tables()));
+        match (&desk.store, shown) {
+            (Some(store), Ok(shown)) => same_ledger(shown, store)?,
+            (Some(_), Err(clause)) => return Err(format!("our tables break {clause:?}")),
+            (None, _) => (),
+        }
         Ok(theirs)
-    }
-
-    fn shows_the_same(&self, desk: &Desk) -> Verdict {
-        match (&desk.store, sound::decode(self.ours.tables())) {
-            (Some(store), Ok(shown)) => same_ledger(&shown, store),
-            (Some(_), Err(clause)) => Err(format!("our tables break {clause:?}")),
-            (None, _) => Ok(()),
-        }
     }
 
     // One call on given tables: 20 where the independent check finds them unsound, else what the rebuild says of their ledger.
