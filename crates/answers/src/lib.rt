@@ -1,4 +1,6 @@
 // What each public call answers. For `ledger`, the crates of its parts, and all who call it.
+#![tactic(auto)]
+
 ghost use Rattle.std.specs.Prelude.{◌≡◌};
 ghost use Rattle.answers.specs.Answers.{empty_entry, no_proof};
 
@@ -9,41 +11,41 @@ use records::{
 };
 
 // Opening; and, beside its record, a call whose record has keys.
-#[derive(Drop)]
+#[derive(Clone, Copy)]
 pub enum Answer {
     Done,
     Refused(Refusal),
 }
 
 // Adding and revoking: the registration that was made or ended.
-#[derive(Drop)]
+#[derive(Clone, Copy)]
 pub enum Registered {
     Gave(Principal),
     Refused(Refusal),
 }
 
 // Requesting and rejecting: the request, all zero for a refusal.
-#[derive(Drop)]
+#[derive(Clone, Copy)]
 pub struct Requested {
     pub answer: Answer,
     pub request: ActionRequest,
 }
 
 // Approving: the proof, all zero for a refusal.
-#[derive(Drop)]
+#[derive(Clone, Copy)]
 pub struct Proved {
     pub answer: Answer,
     pub proof: ApprovalProof,
 }
 
-#[derive(Drop)]
+#[derive(Clone, Copy)]
 pub enum StatusAnswer {
     Is(RequestStatus),
     Refused(Refusal),
 }
 
 // Whether a request has a proof.
-#[derive(Drop)]
+#[derive(Clone, Copy)]
 pub enum ProofAnswer {
     Found,
     Nothing,
@@ -51,7 +53,7 @@ pub enum ProofAnswer {
 }
 
 // The proof of a request, all zero where there is none.
-#[derive(Drop)]
+#[derive(Clone, Copy)]
 pub struct Shown {
     pub answer: ProofAnswer,
     pub proof: ApprovalProof,
@@ -79,21 +81,21 @@ pub fn no_proof() -> ApprovalProof
     }
 }
 
-#[derive(Drop)]
+#[derive(Clone, Copy)]
 pub enum RevocationsAnswer {
     Are(ProofRevocations),
     Refused(Refusal),
 }
 
 // How many entries a page has.
-#[derive(Drop)]
+#[derive(Clone, Copy)]
 pub enum Paged {
     Entries(u64),
     Refused(Refusal),
 }
 
 // A page as records; where the page has fewer, the others are all zero.
-#[derive(Drop)]
+#[derive(Clone, Copy)]
 pub struct Page {
     pub answer: Paged,
     pub entries: [PageEntry; 100],

@@ -1,4 +1,6 @@
 // The program: it runs a command file, from standard input or from the file that its argument names, on tables of its own, and writes the run's lines.
+#![tactic(auto)]
+
 mod telling;
 
 use libc::{STDIN_FILENO, STDOUT_FILENO};

@@ -1,4 +1,6 @@
 // The ledger for programs in C and Rust: entry points on numbers, rows and bytes. Each answers for any arguments and any lent tables. For `host/`.
+#![tactic(auto)]
+
 mod changes;
 mod files;
 mod outcomes;

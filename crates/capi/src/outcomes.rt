@@ -7,7 +7,7 @@ use records::{Refusal, RequestStatus};
 
 // Refusal 0 is none. The number is 0 beside a refusal.
 #[repr(C)]
-#[derive(Drop)]
+#[derive(Clone, Copy)]
 pub struct Outcome {
     pub refusal: u64,
     pub number: u64,

@@ -4,7 +4,7 @@ use ids::{Account, Key, RequestId};
 use records::{BlockTime, Role};
 
 // The key added stands beside.
-#[derive(Drop)]
+#[derive(Clone, Copy)]
 pub struct AddCommand {
     pub caller: Account,
     pub account: Account,
@@ -12,14 +12,14 @@ pub struct AddCommand {
 }
 
 // The key revoked stands beside.
-#[derive(Drop)]
+#[derive(Clone, Copy)]
 pub struct RevokeCommand {
     pub caller: Account,
     pub now: BlockTime,
 }
 
 // The signer's key stands beside; the text is `&input[text_start..text_start + text_len]`.
-#[derive(Drop)]
+#[derive(Clone, Copy)]
 pub struct RequestCommand {
     pub predecessor: Account,
     pub signer: Account,
@@ -28,7 +28,7 @@ pub struct RequestCommand {
     pub now: BlockTime,
 }
 
-#[derive(Drop)]
+#[derive(Clone, Copy)]
 pub struct ApproveCommand {
     pub predecessor: Account,
     pub signer: Account,
@@ -38,7 +38,7 @@ pub struct ApproveCommand {
     pub now: BlockTime,
 }
 
-#[derive(Drop)]
+#[derive(Clone, Copy)]
 pub struct RejectCommand {
     pub predecessor: Account,
     pub signer: Account,
@@ -46,13 +46,13 @@ pub struct RejectCommand {
     pub now: BlockTime,
 }
 
-#[derive(Drop)]
+#[derive(Clone, Copy)]
 pub struct PageCommand {
     pub from: u64,
     pub limit: u64,
 }
 
-#[derive(Drop)]
+#[derive(Clone, Copy)]
 pub enum Command {
     Open(Account),
     Add(AddCommand),
@@ -65,7 +65,7 @@ pub enum Command {
 }
 
 // What stands at a place of the input: a whole command, the end of the run, or a fault and its place.
-#[derive(Drop)]
+#[derive(Clone, Copy)]
 pub enum Step {
     Command(Command),
     End,
@@ -73,7 +73,7 @@ pub enum Step {
 }
 
 // `key` is all zero where the step has none; `next` is where the next command starts, 0 where there is no command.
-#[derive(Drop)]
+#[derive(Clone, Copy)]
 pub struct Taken {
     pub step: Step,
     pub key: Key,

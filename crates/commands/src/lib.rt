@@ -1,4 +1,6 @@
 // The command file: what it may hold, and the reader of one command. For the run, which acts on each command.
+#![tactic(auto)]
+
 mod command;
 mod kind;
 mod reader;

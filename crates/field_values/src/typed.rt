@@ -11,56 +11,56 @@ use ids::{Account, Key};
 use records::{BlockTime, Role, role_by_number};
 
 // What was read, and where reading goes on.
-#[derive(Drop)]
+#[derive(Clone, Copy)]
 pub struct Numbered {
     pub number: u64,
     pub next: usize,
 }
 
-#[derive(Drop)]
+#[derive(Clone, Copy)]
 pub enum Number {
     Is(Numbered),
     Stopped(Stop),
 }
 
-#[derive(Drop)]
+#[derive(Clone, Copy)]
 pub struct Timed {
     pub time: BlockTime,
     pub next: usize,
 }
 
-#[derive(Drop)]
+#[derive(Clone, Copy)]
 pub enum Time {
     Is(Timed),
     Stopped(Stop),
 }
 
-#[derive(Drop)]
+#[derive(Clone, Copy)]
 pub struct Roled {
     pub role: Role,
     pub next: usize,
 }
 
-#[derive(Drop)]
+#[derive(Clone, Copy)]
 pub enum RoleHeld {
     Is(Roled),
     Stopped(Stop),
 }
 
-#[derive(Drop)]
+#[derive(Clone, Copy)]
 pub enum Next {
     At(usize),
     Stopped(Stop),
 }
 
 // The key is all zero where `read` gives no place, and so is who calls, below.
-#[derive(Drop)]
+#[derive(Clone, Copy)]
 pub struct Keyed {
     pub key: Key,
     pub read: Next,
 }
 
-#[derive(Drop)]
+#[derive(Clone, Copy)]
 pub struct Called {
     pub predecessor: Account,
     pub signer: Account,
@@ -69,7 +69,7 @@ pub struct Called {
 }
 
 // A text by its place in the input, and when.
-#[derive(Drop)]
+#[derive(Clone, Copy)]
 pub struct Noted {
     pub text_start: usize,
     pub text_len: usize,
@@ -77,7 +77,7 @@ pub struct Noted {
     pub next: usize,
 }
 
-#[derive(Drop)]
+#[derive(Clone, Copy)]
 pub enum Note {
     Is(Noted),
     Stopped(Stop),

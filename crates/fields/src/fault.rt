@@ -4,7 +4,7 @@ ghost use Rattle.fields.specs.Faults.{fault_text};
 
 use records::Text;
 
-#[derive(Drop)]
+#[derive(Clone, Copy)]
 pub enum Fault {
     MissingField,
     CutField,
@@ -16,7 +16,7 @@ pub enum Fault {
 }
 
 // A fault, and its place in the input.
-#[derive(Drop)]
+#[derive(Clone, Copy)]
 pub struct Stop {
     pub fault: Fault,
     pub place: usize,

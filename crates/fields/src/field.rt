@@ -8,7 +8,7 @@ use crate::fault::{Fault, Stop};
 use crate::number::number_in;
 
 // What a field's value may be.
-#[derive(Drop)]
+#[derive(Clone, Copy)]
 pub enum Form {
     Exactly(usize),
     AnyLength,
@@ -16,25 +16,25 @@ pub enum Form {
 }
 
 // From `start` up to, not including, `end`.
-#[derive(Drop)]
+#[derive(Clone, Copy)]
 pub struct Span {
     pub start: usize,
     pub end: usize,
 }
 
-#[derive(Drop)]
+#[derive(Clone, Copy)]
 pub enum Part {
     At(Span),
     Stopped(Stop),
 }
 
-#[derive(Drop)]
+#[derive(Clone, Copy)]
 pub enum Tag {
     Is(u8),
     Stopped(Stop),
 }
 
-#[derive(Drop)]
+#[derive(Clone, Copy)]
 pub enum Ending {
     Clean,
     Stopped(Stop),

@@ -1,4 +1,6 @@
 // Tagged fields of the command file, and the faults that stop a run. For `field_values` and the reader of commands. A value is lent with its offset in the input.
+#![tactic(auto)]
+
 mod fault;
 pub mod field;
 mod number;

@@ -1,15 +1,17 @@
 // Who and what the ledger speaks of: accounts, requests and registrations by number, keys by their 32 bytes. For every crate above.
+#![tactic(auto)]
+
 ghost use Rattle.std.specs.Prelude.{◌≡◌};
 ghost use Rattle.ids.specs.Decides.{Decides};
 
 // Every number is an account, a request's number, a registration's number; none is another's.
-#[derive(Drop)]
+#[derive(Clone, Copy)]
 pub struct Account(pub u64);
 
-#[derive(Drop)]
+#[derive(Clone, Copy)]
 pub struct RequestId(pub u64);
 
-#[derive(Drop)]
+#[derive(Clone, Copy)]
 pub struct RegistrationId(pub u64);
 
 // Every 32 bytes are a key.

@@ -1,4 +1,6 @@
 // Requests approved, on tables that are given sound. For `ledger`, and for a run that checks once.
+#![tactic(auto)]
+
 mod approve;
 mod told;
 

@@ -1,4 +1,6 @@
 // Who may call, on tables that are given sound. For `ledger_requests` and the decisions.
+#![tactic(auto)]
+
 ghost use Rattle.ledger_callers.specs.Authenticates.{Authenticates};
 ghost use Rattle.tables.specs.Tables.{Standing, tables};
 
@@ -6,7 +8,7 @@ use records::{Caller, Refusal, Role};
 use rows::Found;
 
 // The place of the caller's key among the registered ones, or why it is refused.
-#[derive(Drop)]
+#[derive(Clone, Copy)]
 pub enum Auth {
     At(usize),
     Refused(Refusal),

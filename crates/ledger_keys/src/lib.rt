@@ -1,4 +1,6 @@
 // Keys registered, and a registration as its row tells it, on tables that are given sound. For `ledger_revocations` and `ledger`.
+#![tactic(auto)]
+
 ghost use Rattle.std.specs.Prelude.{◌≡◌, ◌≤◌, get_or};
 ghost use Rattle.ledger_keys.specs.Registrations.{principal_of_row};
 ghost use Rattle.answers.specs.Calls.{add_call};

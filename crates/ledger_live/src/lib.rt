@@ -1,4 +1,6 @@
 // Whether a request is live, and under which registered key. For the parts of `ledger` that decide a request or read its status.
+#![tactic(auto)]
+
 ghost use Rattle.std.specs.Prelude.{◌<◌};
 ghost use Rattle.tables.specs.Tables.{Standing, tables};
 ghost use Rattle.tables.specs.Parts.{request_count};
@@ -9,7 +11,7 @@ use rows::Found;
 use rows::search::find;
 
 // The place of the key that a request is live under.
-#[derive(Drop)]
+#[derive(Clone, Copy)]
 pub enum Live {
     At(usize),
     Nothing,

@@ -1,4 +1,6 @@
 // A page of the log, on tables that are given sound. For `ledger`, which checks the tables first.
+#![tactic(auto)]
+
 mod page;
 
 pub use page::{entry_sound, page_room_sound, page_sound};

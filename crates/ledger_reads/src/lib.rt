@@ -1,4 +1,6 @@
 // The reads of a request and of registrations, on tables that are given sound: status, proof and its text, revocations. For `ledger`, which checks the tables first.
+#![tactic(auto)]
+
 mod approval;
 mod revocations;
 mod status;

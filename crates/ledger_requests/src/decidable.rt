@@ -7,7 +7,7 @@ use ledger_live::{Live, live_agent_registration};
 use records::Refusal;
 
 // The place of the key that a request waits under, or why it may not be decided.
-#[derive(Drop)]
+#[derive(Clone, Copy)]
 pub enum Decidable {
     At(usize),
     Refused(Refusal),

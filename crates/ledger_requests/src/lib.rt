@@ -1,4 +1,6 @@
 // Requests, asked for and looked up, on tables that are given sound. For `ledger_decisions` and the two above it, `ledger`, and a run that checks once.
+#![tactic(auto)]
+
 mod ask;
 mod decidable;
 mod told;

@@ -1,4 +1,6 @@
 // Registrations ended, on tables that are given sound. For `ledger`.
+#![tactic(auto)]
+
 ghost use Rattle.answers.specs.Calls.{revoke_call};
 ghost use Rattle.answers.specs.Does.{Part};
 ghost use Rattle.tables.specs.Tables.{Standing, tables};

@@ -1,4 +1,6 @@
 // What a run says: the lines of its output, each a function of what it tells, and the tally. For `replay`.
+#![tactic(auto)]
+
 mod line;
 mod output;
 mod reply;

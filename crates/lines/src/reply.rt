@@ -1,7 +1,7 @@
 // What a command is told, a page's entries apart.
 use records::{Refusal, RequestStatus};
 
-#[derive(Drop)]
+#[derive(Clone, Copy)]
 pub enum Reply {
     Done,
     Number(u64),

@@ -6,7 +6,7 @@ ghost use Rattle.lines.specs.Replies.{told};
 use crate::reply::Reply;
 use records::Refusal;
 
-#[derive(Drop)]
+#[derive(Clone, Copy)]
 pub struct Tally {
     pub commands: u64,
     pub accepted: u64,

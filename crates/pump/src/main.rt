@@ -1,4 +1,6 @@
 // Document 01's pump-side examples, each sentence run on real tables, with what the call answered. For whoever wants to see the ledger answer.
+#![tactic(auto)]
+
 mod scenes;
 
 fn main() {

@@ -2,7 +2,7 @@
 use records::{Refusal, RequestStatus};
 
 // `Accepted` has the number that the call gave, `Count` a number that was read.
-#[derive(Drop)]
+#[derive(Clone, Copy)]
 pub enum Outcome {
     Accepted(u64),
     Refused(Refusal),

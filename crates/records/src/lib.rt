@@ -1,4 +1,6 @@
 // The ledger's records in the source's names, a request's text apart; and why a call is refused. For every crate above.
+#![tactic(auto)]
+
 mod refusal;
 mod status;
 mod text;
@@ -12,21 +14,21 @@ pub use refusal::{Refusal, number, refusal_text};
 pub use status::{RequestStatus, status_name};
 pub use text::Text;
 
-#[derive(Drop)]
+#[derive(Clone, Copy)]
 pub enum Role {
     Agent,
     Approver,
 }
 
 // When a block was made. Any two numbers are a time.
-#[derive(Drop)]
+#[derive(Clone, Copy)]
 pub struct BlockTime {
     pub height: u64,
     pub timestamp_ns: u64,
 }
 
 // A registered key's owner and role. `pending` is 0 for an Approver.
-#[derive(Drop)]
+#[derive(Clone, Copy)]
 pub struct Principal {
     pub account_id: Account,
     pub role: Role,
@@ -36,14 +38,14 @@ pub struct Principal {
 }
 
 // Who calls: the account at hand, the account that signed, and the key it signed with.
-#[derive(Drop)]
+#[derive(Clone, Copy)]
 pub struct Caller {
     pub predecessor: Account,
     pub signer: Account,
     pub signer_key: Key,
 }
 
-#[derive(Drop)]
+#[derive(Clone, Copy)]
 pub struct Approval {
     pub approval_index: u64,
     pub approver_account_id: Account,
@@ -52,7 +54,7 @@ pub struct Approval {
     pub approved_at: BlockTime,
 }
 
-#[derive(Drop)]
+#[derive(Clone, Copy)]
 pub struct Rejection {
     pub approver_account_id: Account,
     pub approver_key: Key,
@@ -61,7 +63,7 @@ pub struct Rejection {
 }
 
 // Which of a request's two decisions is there: the source's two `Option`s, of which at most one is ever set.
-#[derive(Drop)]
+#[derive(Clone, Copy)]
 pub enum Mark {
     Undecided,
     Approved,
@@ -69,7 +71,7 @@ pub enum Mark {
 }
 
 // A request. The decision that `mark` does not name is all zero.
-#[derive(Drop)]
+#[derive(Clone, Copy)]
 pub struct ActionRequest {
     pub id: RequestId,
     pub agent_account_id: Account,
@@ -81,7 +83,7 @@ pub struct ActionRequest {
     pub rejection: Rejection,
 }
 
-#[derive(Drop)]
+#[derive(Clone, Copy)]
 pub struct ApprovalProof {
     pub approval_index: u64,
     pub request_id: RequestId,
@@ -96,20 +98,20 @@ pub struct ApprovalProof {
 }
 
 // The source's `Option<BlockTime>`.
-#[derive(Drop)]
+#[derive(Clone, Copy)]
 pub enum Revocation {
     Nothing,
     At(BlockTime),
 }
 
-#[derive(Drop)]
+#[derive(Clone, Copy)]
 pub struct ProofRevocations {
     pub agent: Revocation,
     pub approver: Revocation,
 }
 
 // One slot of the log, on a page.
-#[derive(Drop)]
+#[derive(Clone, Copy)]
 pub struct PageEntry {
     pub slot: u64,
     pub request_id: RequestId,

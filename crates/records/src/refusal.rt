@@ -5,7 +5,7 @@ ghost use Rattle.records.specs.Refusals.{refusal_number, text_of_refusal};
 
 use crate::text::Text;
 
-#[derive(Drop)]
+#[derive(Clone, Copy)]
 pub enum Refusal {
     NotOwner,
     IndirectCall,

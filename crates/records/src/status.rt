@@ -4,7 +4,7 @@ ghost use Rattle.records.specs.Statuses.{status_text};
 
 use crate::text::Text;
 
-#[derive(Drop)]
+#[derive(Clone, Copy)]
 pub enum RequestStatus {
     Pending,
     Approved,

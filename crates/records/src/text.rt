@@ -1,7 +1,7 @@
 // A short text by value.
 
 // The first `len` bytes count; blanks fill the rest.
-#[derive(Drop)]
+#[derive(Clone, Copy)]
 pub struct Text {
     pub bytes: [u8; 48],
     pub len: usize,

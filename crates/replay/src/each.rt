@@ -12,7 +12,7 @@ use ids::Key;
 use lines::{Reply, Tally, answer_line, counted, stopped_line};
 
 // How far a run has come: its tally, the place of the next command, the bytes written, and whether it goes on.
-#[derive(Drop)]
+#[derive(Clone, Copy)]
 pub struct Progress {
     pub tally: Tally,
     pub at: usize,
@@ -21,7 +21,7 @@ pub struct Progress {
 }
 
 // A command's reply, and where the line after its own goes.
-#[derive(Drop)]
+#[derive(Clone, Copy)]
 pub struct Answered {
     pub reply: Reply,
     pub wrote: usize,

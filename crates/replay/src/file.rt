@@ -11,7 +11,7 @@ use fields::{Fault, Stop};
 use lines::{Tally, end_line, stopped_line};
 
 // A run's tally, and how many bytes of its lines are written.
-#[derive(Drop)]
+#[derive(Clone, Copy)]
 pub struct Ran {
     pub tally: Tally,
     pub wrote: usize,

@@ -7,7 +7,7 @@ use crate::each::{Progress, stepped};
 use lines::Tally;
 
 // Where a step leads: the place of the next command, the bytes written, and whether the run goes on.
-#[derive(Drop)]
+#[derive(Clone, Copy)]
 pub struct Next {
     pub at: usize,
     pub wrote: usize,

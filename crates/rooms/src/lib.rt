@@ -1,4 +1,6 @@
 // Arrays of zeros for programs to lend. A promise gives the length alone, which lending a slice needs; so no proof spells the zeros out.
+#![tactic(auto)]
+
 ghost use Rattle.std.specs.Prelude.{◌≡◌, length};
 
 pub fn book() -> [[u64; 6]; 1089]

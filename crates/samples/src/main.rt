@@ -1,4 +1,6 @@
 // Replays each command file of the stored list and writes its lines. For the gate, which holds them to `stdout`, made by host's rebuild.
+#![tactic(auto)]
+
 mod each;
 
 fn main() {

@@ -5,7 +5,7 @@ ghost use Rattle.tables.specs.Fit.{Registered};
 ghost use Rattle.sound_ties.specs.Places.{Numbered, InForce, EachPlaced, Noted};
 
 // By registration number: 0 where none of the keys has it, and i + 1 where key i has.
-#[derive(Drop)]
+#[derive(Clone, Copy)]
 pub struct Placed {
     pub ok: bool,
     pub place: [u64; 256],

@@ -1,4 +1,6 @@
 // Whether lent tables are a sound ledger: the check that comes before all else. For every function that takes the tables from outside.
+#![tactic(auto)]
+
 ghost use Rattle.ids.specs.Decides.{Decides};
 ghost use Rattle.tables.specs.Fit.{Fit};
 ghost use Rattle.tables.specs.Tables.{Standing, tables};

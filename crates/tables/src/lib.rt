@@ -1,1 +1,3 @@
 // The tables that a caller lends.
+
+#![tactic(auto)]
