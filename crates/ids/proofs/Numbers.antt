@@ -4,8 +4,7 @@ use mathlib.Core.Path.{◌≡◌, ap, sym, ◌∙◌}
 use lib.Dec.{eqb}
 use borrow.Author.Tests.{eqb-true, eq-eqb}
 use Rattle.ids.specs.Decides.{Decides}
-use Rattle.ids.proofs.Flags.{holds, fails}
-use mathlib.Core.Bool.{Bool, true, false, false≢true}
+use mathlib.Core.Bool.{false≢true}
 
 pub by_number : {A : Type 0} (number : A → ℕ) (of : ℕ → A) → ((a : A) → of (number a) ≡ a) → (a b : A) → Decides (eqb (number a) (number b)) (a ≡ b)
 by_number number of back a b = record {

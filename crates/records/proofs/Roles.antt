@@ -1,7 +1,6 @@
 -- A role is known by its number. Assumes nothing.
 use mathlib.Core.Path.{◌≡◌, refl, sym, ap, ◌∙◌}
 use Prim.Native.Nat.{ℕ, zero, suc}
-use native.Mathlib.Omega.{arith}
 use Rattle.records.specs.declared.Role.{Role}
 use Rattle.records.specs.declared.Role.TheVariants.{Agent, Approver}
 use Rattle.records.specs.Roles.{role_number, role_of}

@@ -59,6 +59,7 @@ pub fn number(r: Refusal) -> u64
 }
 
 // The text of a refusal, by value.
+#[tactic(auto, using(crate::proofs::Letters::said), unfolding(crate::specs::Refusals::text_of_refusal))]
 pub fn refusal_text(r: Refusal) -> Text
     ensures { Says result.bytes result.len (text_of_refusal r) }
 {

@@ -12,6 +12,7 @@ pub enum RequestStatus {
     Void,
 }
 
+#[tactic(auto, using(crate::proofs::Letters::said), unfolding(crate::specs::Statuses::status_text))]
 pub fn status_name(s: RequestStatus) -> Text
     ensures { Says result.bytes result.len (status_text s) }
 {
