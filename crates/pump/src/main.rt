@@ -3,20 +3,22 @@
 
 mod scenes;
 
-fn main() {
+use std::io;
+
+fn main(rt: HostRuntime) -> io::Result<()> {
     let mut book = [[0u64; 6]; 1089];
     let mut keys = [[0u8; 32]; 576];
     let mut texts = [0u8; 32768];
-    scenes::registering(&mut book, &mut keys, &mut texts);
-    scenes::text_lengths(&mut book, &mut keys, &mut texts);
-    scenes::sixteen_pending(&mut book, &mut keys, &mut texts);
-    scenes::another_text(&mut book, &mut keys, &mut texts);
-    scenes::own_account(&mut book, &mut keys, &mut texts);
-    scenes::agent_revoked(&mut book, &mut keys, &mut texts);
-    scenes::approved_before(&mut book, &mut keys, &mut texts);
-    scenes::rejected_before(&mut book, &mut keys, &mut texts);
-    scenes::pages(&mut book, &mut keys, &mut texts);
-    scenes::key_room(&mut book, &mut keys, &mut texts);
-    scenes::registration_room(&mut book, &mut keys, &mut texts);
-    scenes::text_room(&mut book, &mut keys, &mut texts);
+    scenes::registering(&rt, &mut book, &mut keys, &mut texts)?;
+    scenes::text_lengths(&rt, &mut book, &mut keys, &mut texts)?;
+    scenes::sixteen_pending(&rt, &mut book, &mut keys, &mut texts)?;
+    scenes::another_text(&rt, &mut book, &mut keys, &mut texts)?;
+    scenes::own_account(&rt, &mut book, &mut keys, &mut texts)?;
+    scenes::agent_revoked(&rt, &mut book, &mut keys, &mut texts)?;
+    scenes::approved_before(&rt, &mut book, &mut keys, &mut texts)?;
+    scenes::rejected_before(&rt, &mut book, &mut keys, &mut texts)?;
+    scenes::pages(&rt, &mut book, &mut keys, &mut texts)?;
+    scenes::key_room(&rt, &mut book, &mut keys, &mut texts)?;
+    scenes::registration_room(&rt, &mut book, &mut keys, &mut texts)?;
+    scenes::text_room(&rt, &mut book, &mut keys, &mut texts)
 }

@@ -13,10 +13,8 @@ pub fn requests(
     n: u64,
 ) -> Outcome {
     let mut last = Outcome::Count(0);
-    let mut i = 0;
-    while i < n {
+    for _ in 0..n {
         last = tries::request(book, keys, texts, people::a(), action);
-        i += 1;
     }
     last
 }
@@ -24,11 +22,9 @@ pub fn requests(
 // A requests and B approves, n times from a ledger without requests.
 pub fn approvals(book: &mut Book, keys: &mut Keys, texts: &mut Texts, n: u64) -> Outcome {
     let mut last = Outcome::Count(0);
-    let mut i = 0;
-    while i < n {
+    for i in 0..n {
         tries::request(book, keys, texts, people::a(), b"maxrate=50");
         last = tries::approve(book, keys, texts, people::b(), i, b"maxrate=50");
-        i += 1;
     }
     last
 }
@@ -36,13 +32,11 @@ pub fn approvals(book: &mut Book, keys: &mut Keys, texts: &mut Texts, n: u64) ->
 // Adds agents 0 to n - 1, of whom the first leave, so that no more than 64 stay.
 pub fn adds(book: &mut Book, keys: &mut Keys, texts: &mut Texts, n: u64) -> Outcome {
     let mut last = Outcome::Count(0);
-    let mut i = 0;
-    while i < n {
+    for i in 0..n {
         if 64 <= i {
             tries::revoke(book, keys, texts, people::agent(i - 64));
         }
         last = tries::add(book, keys, texts, 7, people::agent(i), Role::Agent);
-        i += 1;
     }
     last
 }

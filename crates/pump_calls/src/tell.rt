@@ -1,62 +1,44 @@
 // A line for each sentence: its words, what the call answered, and what document 01 says, if that is something else.
 use crate::outcome;
 use crate::outcome::Outcome;
-use libc::STDOUT_FILENO;
 use records::{Refusal, RequestStatus};
+use std::io;
 
-fn say(words: &[u8]) {
-    io::write_all(STDOUT_FILENO, words);
-}
-
-fn say_number(n: u64) {
-    io::print_decimal(STDOUT_FILENO, n);
-}
-
-fn say_refusal(why: Refusal) {
-    say_number(records::number(why));
-    say(b" ");
+fn say_refusal(rt: &impl Print, why: Refusal) -> io::Result<()> {
     let text = records::refusal_text(why);
     let bytes = text.bytes;
     let n = text.len;
-    say(&bytes[..n]);
+    print!(rt; "{} ", records::number(why))?;
+    rt.write_all(&bytes[..n])
 }
 
-fn say_status(s: RequestStatus) {
+fn say_status(rt: &impl Print, s: RequestStatus) -> io::Result<()> {
     let text = records::status_name(s);
     let bytes = text.bytes;
     let n = text.len;
-    say(&bytes[..n]);
+    rt.write_all(&bytes[..n])
 }
 
-fn say_outcome(o: Outcome) {
+fn say_outcome(rt: &impl Print, o: Outcome) -> io::Result<()> {
     match o {
-        Outcome::Accepted(n) => {
-            say(b"accepted, number ");
-            say_number(n);
-        }
-        Outcome::Refused(why) => {
-            say_refusal(why);
-        }
-        Outcome::Is(status) => {
-            say_status(status);
-        }
-        Outcome::Count(n) => {
-            say_number(n);
-        }
+        Outcome::Accepted(n) => print!(rt; "accepted, number {n}"),
+        Outcome::Refused(why) => say_refusal(rt, why),
+        Outcome::Is(status) => say_status(rt, status),
+        Outcome::Count(n) => print!(rt; "{n}"),
     }
 }
 
-pub fn line(sentence: &[u8], got: Outcome, due: Outcome) {
-    say(sentence);
-    say(b": ");
-    say_outcome(got);
+pub fn line(rt: &impl Print, sentence: &[u8], got: Outcome, due: Outcome) -> io::Result<()> {
+    rt.write_all(sentence)?;
+    print!(rt; ": ")?;
+    say_outcome(rt, got)?;
     if !outcome::same(got, due) {
-        say(b"; DOCUMENT 01 SAYS ");
-        say_outcome(due);
+        print!(rt; "; DOCUMENT 01 SAYS ")?;
+        say_outcome(rt, due)?;
     }
-    say(b"\n");
+    println!(rt; "")
 }
 
-pub fn refused(sentence: &[u8], got: Outcome, why: Refusal) {
-    line(sentence, got, Outcome::Refused(why));
+pub fn refused(rt: &impl Print, sentence: &[u8], got: Outcome, why: Refusal) -> io::Result<()> {
+    line(rt, sentence, got, Outcome::Refused(why))
 }
