@@ -155,4 +155,4 @@ grows_trans a b = record {
 
 pub grows_run : {L : Ledger} → Sound L → (cs : List Change) → Grows L (run L cs)
 grows_run {L} s [] = grows_refl L
-grows_run {L} s (c ∷ cs) = grows_trans (grows_step L s c) (grows_run (sound_step L s c) cs)
+grows_run {L} s (c ∷ cs) = grows_trans (grows_step L s c) (grows_run {L = exec L c} (sound_step L s c) cs)

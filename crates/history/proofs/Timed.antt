@@ -110,7 +110,7 @@ timed_step {L} s {t} d c le = timed_on s d le (by_plan L c (λ _ M. Onward L (op
 
 pub timed_run : {L : Ledger} → Sound L → {t : BlockTime} → Timed L t → (cs : List Change) → Rising t cs → Timed (run L cs) (last_now t cs)
 timed_run s d [] rises = d
-timed_run {L} s d (c ∷ cs) (le, rises) = timed_run (sound_step L s c) (timed_step s d c le) cs rises
+timed_run {L} s d (c ∷ cs) (le, rises) = timed_run {L = exec L c} (sound_step L s c) (timed_step s d c le) cs rises
 
 -- ---- nothing of this is empty
 -- every slot of a sound ledger's log has its time

@@ -1,7 +1,6 @@
 -- A page of a sound ledger has an entry for each of its slots, in order, and each entry is its request's proof; the log has room. Assumes nothing.
 use mathlib.Core.Path.{◌∙◌, ◌≡◌, ap, refl, sym}
 use Prim.Native.Nat.{◌+◌, ◌-◌, ◌<◌, ◌≤◌, suc, zero, ℕ}
-use borrow.Fn.PlainCycle.{is}
 use lib.ListN.{drop, get_elem?, length, length-map}
 use mathlib.Core.List.{List, [], ◌∷◌, map}
 use mathlib.Core.Option.{some}

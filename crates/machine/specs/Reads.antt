@@ -15,7 +15,6 @@ use Rattle.records.specs.declared.ProofRevocations.{ProofRevocations}
 use Rattle.records.specs.declared.Revocation.{Revocation}
 use Rattle.records.specs.declared.refusal.Refusal.TheVariants.{PageRoom, RequestNotFound}
 use Rattle.records.specs.declared.status.RequestStatus.{RequestStatus}
-use Rattle.records.specs.declared.Revocation.TheVariants as Revocation
 use Rattle.records.specs.declared.status.RequestStatus.TheVariants as Status
 
 -- ---- 'Status: 11'
