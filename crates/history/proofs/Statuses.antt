@@ -1,7 +1,7 @@
 -- The history tells what the ledger holds. Assumes nothing.
 use mathlib.Core.Logic.{inl, inr}
 use mathlib.Core.Path.{◌∙◌, ◌≡◌, ap, refl, sym}
-use Prim.Native.Nat.{one, suc, zero, ℕ}
+use Prim.Native.Nat.{suc, zero, ℕ}
 use borrow.Author.Tests.{eqb-false, eqb-true}
 use lib.Dec.{eqb, eqb-suc-suc, eqb-suc-zero, eqb-zero-suc}
 use lib.Ieee.{fits}

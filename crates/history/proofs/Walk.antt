@@ -19,7 +19,6 @@ use Rattle.machine.proofs.Pages.{log_short, page_entry, page_long, page_requests
 use Rattle.machine.specs.Machine.{run}
 use Rattle.machine.specs.Reads.{approval, entries, entry, page, page_end}
 use Rattle.machine.specs.Sound.{Sound}
-use Rattle.machine.specs.Tests.{same}
 use Rattle.machine.specs.Told.{Texted}
 use Rattle.machine.specs.Types.{Change, Ledger}
 use Rattle.records.specs.declared.ApprovalProof.{ApprovalProof}

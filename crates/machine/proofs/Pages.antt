@@ -6,7 +6,6 @@ use mathlib.Core.List.{List, [], ◌∷◌, map}
 use mathlib.Core.Option.{some}
 use native.Mathlib.Nat.{add-suc, add-zero, suc-add}
 use native.Mathlib.Omega.{arith}
-use types.Run.{from}
 use Rattle.lists.proofs.Places.{at_drop, at_head, at_nil, at_take, down, up}
 use Rattle.lists.proofs.Tallies.{tally_le, tally_lt}
 use Rattle.lists.specs.Places.{At, upto}

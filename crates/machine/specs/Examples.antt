@@ -2,7 +2,6 @@
 -- of 2; C Approver of 1. Assumes nothing.
 use Rattle.std.specs.Prelude.{◌+◌, suc, zero, ℕ, length, replicate, List, [], ◌++◌, ◌∷◌}
 use Rattle.std.proofs.Math.Option.{Option, none, some}
-use types.Run.{from}
 use Rattle.machine.specs.Machine.{Did, Given, opened, run, step, told_by}
 use Rattle.machine.specs.Plan.{Outcome, did, refused}
 use Rattle.machine.specs.Reads.{entries, status}
