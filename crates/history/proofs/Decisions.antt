@@ -13,7 +13,6 @@ use native.Mathlib.Omega.{arith}
 use Rattle.history.proofs.Induction.{from_opened}
 use Rattle.history.proofs.Statuses.{later, pick_snoc, says, says_set, says_snoc}
 use Rattle.history.specs.History.{Event, accepted, asker, decider, decides, event, pick}
-use Rattle.history.specs.Steps.{is_request}
 use Rattle.lists.proofs.Maps.{at_map, map_snoc}
 use Rattle.lists.proofs.Places.{at_nil, at_old, at_one, at_snoc}
 use Rattle.lists.proofs.Tallies.{bit_le, tally_snoc}

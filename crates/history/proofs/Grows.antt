@@ -2,24 +2,22 @@
 use mathlib.Core.Logic.{◌⊎◌, inl, inr}
 use mathlib.Core.Path.{◌∙◌, ◌≡◌, ap, refl, sym}
 use Prim.Native.Nat.{◌≤◌, ℕ}
-use lib.Ieee.{fits}
 use lib.ListN.{get_elem?, length, length-append, length-set}
 use mathlib.Core.Bool.{false}
 use mathlib.Core.List.{List, [], ◌++◌, ◌∷◌, append-nil}
 use mathlib.Core.Option.{Option, none, some}
 use native.Mathlib.Omega.{arith}
 use Rattle.history.proofs.Exec.{by_plan}
-use Rattle.history.specs.History.{ends}
-use Rattle.history.specs.Steps.{Grows, exec, is_request}
+use Rattle.history.specs.Steps.{Grows, exec}
 use Rattle.lists.proofs.Maps.{at_map}
 use Rattle.lists.proofs.Places.{at_below, at_lt, at_old, at_one, at_set, at_set_other, length_snoc}
 use Rattle.lists.specs.Places.{At}
 use Rattle.machine.proofs.Keep.{reg_of, sound_step}
 use Rattle.machine.proofs.Look.{seen, undecided}
-use Rattle.machine.specs.Examples.{asked, each, key}
+use Rattle.machine.specs.Examples.{key}
 use Rattle.machine.specs.Machine.{Did, Given, asked_by, decided, plan, run}
 use Rattle.machine.specs.Plan.{Gives}
-use Rattle.machine.specs.Sound.{Sound, slot, undecided_yet}
+use Rattle.machine.specs.Sound.{Sound, undecided_yet}
 use Rattle.machine.specs.Tests.{Place, live}
 use Rattle.machine.specs.Types.{Change, Decision, Ledger, Request, Undecided, add, approve, reject, request, revoke}
 use Rattle.records.specs.declared.BlockTime.{BlockTime}
@@ -155,4 +153,4 @@ grows_trans a b = record {
 
 pub grows_run : {L : Ledger} → Sound L → (cs : List Change) → Grows L (run L cs)
 grows_run {L} s [] = grows_refl L
-grows_run {L} s (c ∷ cs) = grows_trans (grows_step L s c) (grows_run (sound_step L s c) cs)
+grows_run {L} s (c ∷ cs) = grows_trans (grows_step L s c) (grows_run {L = exec L c} (sound_step L s c) cs)

@@ -2,7 +2,6 @@
 use mathlib.Core.Path.{◌≡◌, refl}
 use Prim.Native.Nat.{◌+◌, ℕ}
 use borrow.Author.Tests.{eqb-true, not-false}
-use lib.Ieee.{fits}
 use lib.ListN.{get_elem?, length, length-set, set}
 use mathlib.Core.Bool.{Bool, ◌&&◌, true}
 use mathlib.Core.List.{[], ◌++◌, ◌∷◌}

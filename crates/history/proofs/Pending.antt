@@ -1,7 +1,7 @@
 -- A registered key's pending count is what the history says. Assumes nothing.
 use mathlib.Core.Logic.{◌≢◌, inl, inr}
 use mathlib.Core.Path.{◌∙◌, ◌≡◌, ap, refl, sym}
-use Prim.Native.Nat.{one, pred, suc, ℕ}
+use Prim.Native.Nat.{pred, suc, ℕ}
 use borrow.Author.Tests.{eq-eqb, ne_eqb}
 use lib.Dec.{eqb}
 use lib.Ieee.{fits}
@@ -14,7 +14,6 @@ use native.Mathlib.Omega.{arith}
 use Rattle.history.proofs.Induction.{from_opened}
 use Rattle.history.proofs.Statuses.{Tells, any_snoc, later, pick_snoc, says, tells}
 use Rattle.history.specs.History.{Event, accepted, adds_key, any, approves, askings, asks_by, event, pending_told, pends, rejects}
-use Rattle.history.specs.Steps.{is_request}
 use Rattle.lists.proofs.Maps.{at_map, at_unmap, map_erase, map_snoc}
 use Rattle.lists.proofs.Places.{at_back, at_nil, at_one, at_snoc, at_snoc_two, length_snoc}
 use Rattle.lists.proofs.Tallies.{tally_two}

@@ -2,7 +2,6 @@
 use mathlib.Core.Path.{◌≡◌, refl, sym}
 use Prim.Native.Nat.{◌+◌, ◌-◌, ◌≤◌, pred, suc, ℕ}
 use borrow.Author.Tests.{eq-eqb, leb-false, not-false}
-use lib.Ieee.{fits}
 use lib.ListN.{get_elem?}
 use mathlib.Core.Bool.{Bool, cond, false, true}
 use mathlib.Core.List.{List, [], ◌∷◌}
@@ -10,7 +9,7 @@ use mathlib.Core.Option.{Option, none, some}
 use native.Mathlib.Omega.{arith}
 use Rattle.history.proofs.Exec.{if_ok}
 use Rattle.history.specs.History.{Naming, naming}
-use Rattle.history.specs.Steps.{exec, is_request, ok, phi, phi_of}
+use Rattle.history.specs.Steps.{exec, ok, phi, phi_of}
 use Rattle.lists.proofs.Maps.{at_map}
 use Rattle.lists.proofs.Places.{at_one}
 use Rattle.lists.proofs.Tallies.{tally_set}

@@ -2,7 +2,6 @@
 use mathlib.Core.Logic.{◌≢◌, inl, inr}
 use mathlib.Core.Path.{◌∙◌, ◌≡◌, ap, refl, sym}
 use Prim.Native.Nat.{ℕ}
-use lib.Ieee.{fits, size}
 use lib.ListN.{length, length-map, length-set, set}
 use mathlib.Core.Bool.{Bool, cond, false, true}
 use mathlib.Core.List.{List, [], ◌++◌, ◌∷◌, append-nil, map}
@@ -11,7 +10,6 @@ use native.Mathlib.Omega.{arith}
 use Rattle.history.proofs.Induction.{from_opened}
 use Rattle.history.proofs.Statuses.{later, pick_snoc}
 use Rattle.history.specs.History.{Event, accepted, addings, adds, end_told, ends, event, first_end, or_else, revoked_told}
-use Rattle.history.specs.Steps.{is_request}
 use Rattle.lists.proofs.Maps.{at_map, at_unmap, map_erase, map_snoc}
 use Rattle.lists.proofs.Places.{at_back, at_lt, at_nil, at_one, at_set, at_snoc, ext_at}
 use Rattle.lists.specs.Places.{At}

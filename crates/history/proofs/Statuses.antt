@@ -1,7 +1,7 @@
 -- The history tells what the ledger holds. Assumes nothing.
 use mathlib.Core.Logic.{inl, inr}
 use mathlib.Core.Path.{◌∙◌, ◌≡◌, ap, refl, sym}
-use Prim.Native.Nat.{one, suc, zero, ℕ}
+use Prim.Native.Nat.{suc, zero, ℕ}
 use borrow.Author.Tests.{eqb-false, eqb-true}
 use lib.Dec.{eqb, eqb-suc-suc, eqb-suc-zero, eqb-zero-suc}
 use lib.Ieee.{fits}
@@ -80,7 +80,7 @@ module _ {A : Type 0} (q : A → Bool) where
   says_set {l = z ∷ zs} {i = zero} y zero h e = sym (ap (λ (b : Bool). b || (q y && true)) (ap q (at_head h) ∙ e) ∙ and_true (q y))
   says_set {l = z ∷ zs} {i = zero} y (suc n) h e = rw (eqb-zero-suc, and_false) (sym (or_false (says (get_elem? zs n))))
   says_set {l = z ∷ zs} {i = suc i} y zero h e = rw (eqb-suc-zero, and_false) (sym (or_false (q z)))
-  says_set {l = z ∷ zs} {i = suc i} y (suc n) h e = rw eqb-suc-suc (says_set y n (down h) e)
+  says_set {l = z ∷ zs} {i = suc i} y (suc n) h e = rw eqb-suc-suc (says_set {l = zs} y n (down h) e)
 
 pub record Tells (h : List Change) (L : Ledger) : Type 0 where
   pub many : length (askings h) ≡ length (asks L)

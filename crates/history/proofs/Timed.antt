@@ -2,21 +2,21 @@
 use mathlib.Core.Logic.{◌⊎◌, inl, inr}
 use mathlib.Core.Path.{◌∙◌, ◌≡◌, ap, refl, sym}
 use Prim.Native.Nat.{◌*◌, ℕ}
-use lib.Ieee.{fits, le}
+use lib.Ieee.{le}
 use lib.ListN.{get_elem?, length, replicate}
 use mathlib.Core.List.{List, [], ◌∷◌}
 use mathlib.Core.Option.{some}
 use native.Mathlib.Omega.{arith}
 use Rattle.history.proofs.Exec.{by_plan}
-use Rattle.history.specs.Steps.{ApprovedAt, Clock, Rising, Timed, Tle, exec, is_request, last_now, op_now}
+use Rattle.history.specs.Steps.{ApprovedAt, Clock, Rising, Timed, Tle, exec, last_now, op_now}
 use Rattle.lists.proofs.Places.{at_lt, at_nil, at_set, at_snoc}
 use Rattle.lists.specs.Places.{At}
 use Rattle.machine.proofs.Keep.{sound_opened, sound_step}
-use Rattle.machine.specs.Examples.{asked, each, key}
+use Rattle.machine.specs.Examples.{key}
 use Rattle.machine.specs.Machine.{Did, Given, decided, opened, plan, run}
 use Rattle.machine.specs.Plan.{Gives}
 use Rattle.machine.specs.Sound.{Sound, slot, verdict}
-use Rattle.machine.specs.Tests.{Place, same}
+use Rattle.machine.specs.Tests.{Place}
 use Rattle.machine.specs.Types.{Approved, Change, Decision, Ledger, Rejected, Request, Undecided, Verdict, add, approve, reject, request, revoke}
 use Rattle.records.specs.declared.BlockTime.{BlockTime}
 use Rattle.records.specs.declared.Caller.{Caller}
@@ -110,7 +110,7 @@ timed_step {L} s {t} d c le = timed_on s d le (by_plan L c (λ _ M. Onward L (op
 
 pub timed_run : {L : Ledger} → Sound L → {t : BlockTime} → Timed L t → (cs : List Change) → Rising t cs → Timed (run L cs) (last_now t cs)
 timed_run s d [] rises = d
-timed_run {L} s d (c ∷ cs) (le, rises) = timed_run (sound_step L s c) (timed_step s d c le) cs rises
+timed_run {L} s d (c ∷ cs) (le, rises) = timed_run {L = exec L c} (sound_step L s c) (timed_step s d c le) cs rises
 
 -- ---- nothing of this is empty
 -- every slot of a sound ledger's log has its time

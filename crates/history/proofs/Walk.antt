@@ -19,7 +19,6 @@ use Rattle.machine.proofs.Pages.{log_short, page_entry, page_long, page_requests
 use Rattle.machine.specs.Machine.{run}
 use Rattle.machine.specs.Reads.{approval, entries, entry, page, page_end}
 use Rattle.machine.specs.Sound.{Sound}
-use Rattle.machine.specs.Tests.{same}
 use Rattle.machine.specs.Told.{Texted}
 use Rattle.machine.specs.Types.{Change, Ledger}
 use Rattle.records.specs.declared.ApprovalProof.{ApprovalProof}
@@ -91,7 +90,7 @@ module _ (limit : ℕ) (w : Walk) (s : Sound w.ledger) (f : Front w) where
 
 fronts : (limit : ℕ) (w : Walk) → Sound w.ledger → Front w → (css : List (List Change)) → Front (walk limit w css) × Sound (walk limit w css).ledger
 fronts limit w s f [] = (f, s)
-fronts limit w s f (cs ∷ css) = fronts limit _ (sound_run w.ledger s cs) (further limit w s f cs) css
+fronts limit w s f (cs ∷ css) = fronts limit (record { ledger = run w.ledger cs; listed = w.listed ++ due limit w }) (sound_run w.ledger s cs) (further limit w s f cs) css
 
 -- From slot 0, a limit of at least 1, up to the first empty page
 pub walk_lists : (limit : ℕ) → 0 < limit → (L : Ledger) → Sound L → (css : List (List Change)) → due limit (walk limit (setting_out L) css) ≡ [] → Lists (walk limit (setting_out L) css)

@@ -4,12 +4,12 @@ use Rattle.std.specs.Prelude.{◌≢◌, ◌≡◌, ◌+◌, ◌-◌, ◌≤◌,
 use Rattle.std.proofs.Math.Option.{Option, none, some}
 use Rattle.lists.specs.Places.{At}
 use Rattle.lists.specs.Tallies.{bit}
-use Rattle.machine.specs.Examples.{asked, key}
-use Rattle.machine.specs.Machine.{Given, decided, left, step}
+use Rattle.machine.specs.Examples.{key}
+use Rattle.machine.specs.Machine.{Given, left, step}
 use Rattle.machine.specs.Plan.{did, was_done}
-use Rattle.machine.specs.Reads.{approval, revocations, status}
+use Rattle.machine.specs.Reads.{approval, status}
 use Rattle.machine.specs.Rooms.{pending_limit}
-use Rattle.machine.specs.Sound.{slot, verdict}
+use Rattle.machine.specs.Sound.{verdict}
 use Rattle.machine.specs.Tests.{Place, approved, regs, rejected, same_role, seek}
 use Rattle.machine.specs.Told.{Texted}
 use Rattle.machine.specs.Types.{Approved, Bytes, Change, Holder, Ledger, Rejected, Request, Verdict, add, approve, reject, request, revoke}

@@ -23,7 +23,7 @@ module _ {A : Type 0} where
   pub get_d_of_at : {l : List A} {i : ℕ} {x : A} (d : A) → At l i x → get_or l i d ≡ x
   get_d_of_at {l = []} d h = absurd (at_nil h)
   get_d_of_at {l = y ∷ ys} {i = zero} d h = at_head h
-  get_d_of_at {l = y ∷ ys} {i = suc i} d h = get_d_of_at d (down h)
+  get_d_of_at {l = y ∷ ys} {i = suc i} d h = get_d_of_at {l = ys} d (down h)
 
   -- ---- a place taken out
   pub take_erase : (l : List A) (i : ℕ) → take i (erase l i) ≡ take i l

@@ -1,13 +1,9 @@
 -- Places and changes of a list, under a map. Assumes nothing.
-use mathlib.Core.Path.{◌≡◌, refl, sym, ap, ◌∙◌, subst}
-use mathlib.Core.Logic.{◌≢◌, ◌⊎◌, inl, inr}
-use Prim.Native.Nat.{ℕ, zero, suc, ◌+◌, ◌-◌, ◌≤◌, ◌<◌, suc-le-suc}
-use native.Mathlib.Nat.{le_of_suc-le-suc, not-suc-le-zero, zero-lt-suc, suc_inj, add-zero, add-suc, suc-add, zero-add}
-use native.Mathlib.Omega.{arith}
-use mathlib.Core.Bool.{Bool, true, false}
-use mathlib.Core.Option.{Option, none, some}
+use mathlib.Core.Path.{◌≡◌, refl, sym, ap, ◌∙◌}
+use Prim.Native.Nat.{ℕ, zero, suc}
+use mathlib.Core.Option.{some}
 use mathlib.Core.List.{List, [], ◌∷◌, ◌++◌, map}
-use lib.ListN.{length, set, take, drop, get_elem?}
+use lib.ListN.{set}
 use Rattle.lists.specs.Places.{At, erase}
 use Rattle.lists.proofs.Places.{at_nil, at_head, down, up}
 
@@ -15,7 +11,7 @@ module _ {A B : Type 0} (f : A → B) where
   pub at_map : {l : List A} {i : ℕ} {x : A} → At l i x → At (map f l) i (f x)
   at_map {l = []} h = absurd (at_nil h)
   at_map {l = z ∷ zs} {i = zero} {x} h = record { is = ap (λ (w : A). some (f w)) (at_head h) }
-  at_map {l = z ∷ zs} {i = suc i} h = up (at_map (down h))
+  at_map {l = z ∷ zs} {i = suc i} h = up (at_map {l = zs} (down h))
 
   pub at_unmap : (l : List A) {i : ℕ} {y : B} → At (map f l) i y → (x : A) × At l i x × (f x ≡ y)
   at_unmap [] h = absurd (at_nil h)
@@ -35,4 +31,4 @@ module _ {A B : Type 0} (f : A → B) where
   pub map_set_same : {l : List A} {i : ℕ} {x : A} (y : A) → At l i x → f y ≡ f x → map f (set l i y) ≡ map f l
   map_set_same {l = []} y h e = refl
   map_set_same {l = z ∷ zs} {i = zero} y h e = ap (λ (b : B). b ∷ map f zs) (e ∙ sym (ap f (at_head h)))
-  map_set_same {l = z ∷ zs} {i = suc i} y h e = ap (λ (r : List B). f z ∷ r) (map_set_same y (down h) e)
+  map_set_same {l = z ∷ zs} {i = suc i} y h e = ap (λ (r : List B). f z ∷ r) (map_set_same {l = zs} y (down h) e)

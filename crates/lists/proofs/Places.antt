@@ -29,7 +29,7 @@ module _ {A : Type 0} where
   pub at_lt : {l : List A} {i : ℕ} {x : A} → At l i x → i < length l
   at_lt {l = []} h = absurd (at_nil h)
   at_lt {l = y ∷ ys} {i = zero} h = zero-lt-suc (length ys)
-  at_lt {l = y ∷ ys} {i = suc i} h = suc-le-suc (at_lt (down h))
+  at_lt {l = y ∷ ys} {i = suc i} h = suc-le-suc (at_lt {l = ys} (down h))
 
   pub at_below : (l : List A) (i : ℕ) → i < length l → (x : A) × At l i x
   at_below [] i h = absurd (not-suc-le-zero h)
@@ -44,7 +44,7 @@ module _ {A : Type 0} where
   pub at_old : {l : List A} {i : ℕ} {x : A} (m : List A) → At l i x → At (l ++ m) i x
   at_old {l = []} m h = absurd (at_nil h)
   at_old {l = y ∷ ys} {i = zero} m h = record { is = h.is }
-  at_old {l = y ∷ ys} {i = suc i} m h = up (at_old m (down h))
+  at_old {l = y ∷ ys} {i = suc i} m h = up (at_old {l = ys} m (down h))
 
   pub at_end : (l : List A) (x : A) → At (l ++ x ∷ []) (length l) x
   at_end [] x = record { is = refl }
@@ -72,7 +72,7 @@ module _ {A : Type 0} where
   at_set_other {l = y ∷ ys} {j = zero} zero x n h = absurd (n refl)
   at_set_other {l = y ∷ ys} {j = suc j} zero x n h = up (down h)
   at_set_other {l = y ∷ ys} {j = zero} (suc i) x n h = record { is = h.is }
-  at_set_other {l = y ∷ ys} {j = suc j} (suc i) x n h = up (at_set_other i x (λ e. n (ap suc e)) (down h))
+  at_set_other {l = y ∷ ys} {j = suc j} (suc i) x n h = up (at_set_other {l = ys} i x (λ e. n (ap suc e)) (down h))
 
   -- a place of the changed list is the changed one, or an old one elsewhere
   pub at_set : (l : List A) (i : ℕ) (x : A) {j : ℕ} {y : A} → At (set l i x) j y → ((j ≡ i) × (y ≡ x)) ⊎ ((j ≢ i) × At l j y)
@@ -114,7 +114,7 @@ module _ {A : Type 0} where
   at_kept {l = z ∷ zs} {j = zero} zero n h = absurd (n refl)
   at_kept {l = z ∷ zs} {j = suc j} zero n h = (j, down h)
   at_kept {l = z ∷ zs} {j = zero} (suc i) n h = (0, record { is = h.is })
-  at_kept {l = z ∷ zs} {j = suc j} (suc i) n h = let r = at_kept i (λ e. n (ap suc e)) (down h) in (suc r.0, up r.1)
+  at_kept {l = z ∷ zs} {j = suc j} (suc i) n h = let r = at_kept {l = zs} i (λ e. n (ap suc e)) (down h) in (suc r.0, up r.1)
 
   pub length_erase : (l : List A) (i : ℕ) → i < length l → suc (length (erase l i)) ≡ length l
   length_erase [] i h = absurd (not-suc-le-zero h)

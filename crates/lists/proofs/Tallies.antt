@@ -1,13 +1,11 @@
 -- What a change of a list does to a tally. Assumes nothing.
-use mathlib.Core.Path.{◌≡◌, refl, sym, ap, ◌∙◌, subst}
-use mathlib.Core.Logic.{◌≢◌, ◌⊎◌, inl, inr}
-use Prim.Native.Nat.{ℕ, zero, suc, ◌+◌, ◌-◌, ◌≤◌, ◌<◌, suc-le-suc}
-use native.Mathlib.Nat.{le_of_suc-le-suc, not-suc-le-zero, zero-lt-suc, suc_inj, add-zero, add-suc, suc-add, zero-add}
+use mathlib.Core.Path.{◌≡◌, refl, sym, ap, ◌∙◌}
+use Prim.Native.Nat.{ℕ, zero, suc, ◌+◌, ◌≤◌, ◌<◌}
+use native.Mathlib.Nat.{suc_inj, add-zero, add-suc, suc-add}
 use native.Mathlib.Omega.{arith}
 use mathlib.Core.Bool.{Bool, true, false}
-use mathlib.Core.Option.{Option, none, some}
-use mathlib.Core.List.{List, [], ◌∷◌, ◌++◌, map}
-use lib.ListN.{length, set, take, drop, get_elem?}
+use mathlib.Core.List.{List, [], ◌∷◌, ◌++◌}
+use lib.ListN.{length, set}
 use Rattle.lists.specs.Places.{At}
 use Rattle.lists.specs.Tallies.{bit, tally, tally_from}
 use Rattle.lists.proofs.Places.{at_nil, at_head, down, up}
@@ -25,7 +23,7 @@ module _ {A : Type 0} where
   pub tally_set : {l : List A} {i : ℕ} {x : A} (p : A → Bool) (y : A) → At l i x → tally p (set l i y) + bit (p x) ≡ tally p l + bit (p y)
   tally_set {l = []} p y h = absurd (at_nil h)
   tally_set {l = z ∷ zs} {i = zero} {x} p y h = let e : bit (p z) ≡ bit (p x) = ap (λ (w : A). bit (p w)) (at_head h) in omega arith
-  tally_set {l = z ∷ zs} {i = suc i} p y h = omega (arith, tally_set p y (down h))
+  tally_set {l = z ∷ zs} {i = suc i} p y h = omega (arith, tally_set {l = zs} p y (down h))
 
   pub tally_le : (p : A → Bool) (l : List A) → tally p l ≤ length l
   tally_le p [] = omega arith
@@ -34,12 +32,12 @@ module _ {A : Type 0} where
   pub tally_lt : {l : List A} {i : ℕ} {x : A} (p : A → Bool) → At l i x → p x ≡ false → tally p l < length l
   tally_lt {l = []} p h e = absurd (at_nil h)
   tally_lt {l = z ∷ zs} {i = zero} p h e = omega (arith, tally_le p zs, ap bit (ap p (at_head h) ∙ e))
-  tally_lt {l = z ∷ zs} {i = suc i} p h e = omega (arith, tally_lt p (down h) e, bit_le (p z))
+  tally_lt {l = z ∷ zs} {i = suc i} p h e = omega (arith, tally_lt {l = zs} p (down h) e, bit_le (p z))
 
   pub tally_some : {l : List A} {i : ℕ} {x : A} (p : A → Bool) → At l i x → p x ≡ true → 0 < tally p l
   tally_some {l = []} p h e = absurd (at_nil h)
   tally_some {l = z ∷ zs} {i = zero} p h e = omega (arith, ap bit (ap p (at_head h) ∙ e))
-  tally_some {l = z ∷ zs} {i = suc i} p h e = omega (arith, tally_some p (down h) e)
+  tally_some {l = z ∷ zs} {i = suc i} p h e = omega (arith, tally_some {l = zs} p (down h) e)
 
   pub tally_none : (p : A → Bool) (l : List A) → ((i : ℕ) (x : A) → At l i x → p x ≡ false) → tally p l ≡ 0
   tally_none p [] h = refl

@@ -2,13 +2,12 @@
 -- requests; a log slot names the one request approved with its index; a registration is in force or revoked, never both. Assumes nothing.
 use mathlib.Core.Logic.{◌↔◌, ◌≢◌, ◌⊎◌, inl, inr}
 use mathlib.Core.Path.{◌∙◌, ◌≡◌, ap, refl, sym}
-use Prim.Native.Nat.{◌<◌, ◌≤◌, one, ℕ}
+use Prim.Native.Nat.{◌<◌, ◌≤◌, ℕ}
 use borrow.Author.Tests.{eqb-false, eqb-true, ne_eqb}
 use lib.Dec.{eqb}
 use lib.ListN.{get_elem?, length}
 use mathlib.Core.Bool.{Bool, ◌&&◌, false, not, true}
 use mathlib.Core.Option.{Option, none, some}
-use mir.Syntax.{place}
 use native.Mathlib.Nat.{zero-add}
 use native.Mathlib.Omega.{arith}
 use Rattle.lists.proofs.Maps.{at_map}

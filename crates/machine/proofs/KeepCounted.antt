@@ -1,7 +1,7 @@
 -- The pending counts, kept. Assumes nothing.
 use mathlib.Core.Logic.{◌≢◌, inl, inr}
 use mathlib.Core.Path.{◌∙◌, ◌≡◌, ap, refl, sym}
-use Prim.Native.Nat.{◌<◌, one, pred, suc, ℕ}
+use Prim.Native.Nat.{◌<◌, pred, suc, ℕ}
 use borrow.Author.Tests.{eq-eqb, ne_eqb}
 use lib.Dec.{eqb}
 use lib.ListN.{set}

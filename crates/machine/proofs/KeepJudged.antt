@@ -12,7 +12,7 @@ use Rattle.lists.proofs.Tallies.{tally_set, tally_snoc}
 use Rattle.lists.specs.Places.{At}
 use Rattle.lists.specs.Tallies.{bit}
 use Rattle.machine.specs.Sound.{Judged, slot}
-use Rattle.machine.specs.Tests.{approved, same}
+use Rattle.machine.specs.Tests.{approved}
 use Rattle.machine.specs.Types.{Approved, Decision, Rejected, Request, Undecided, Verdict}
 use Rattle.records.specs.declared.BlockTime.{BlockTime}
 

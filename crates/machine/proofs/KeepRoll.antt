@@ -10,7 +10,6 @@ use native.Mathlib.Omega.{arith}
 use Rattle.lists.proofs.Places.{at_back, at_back_two, at_end, at_kept, at_lt, at_old, at_one, at_set, at_set_other, at_snoc, length_snoc}
 use Rattle.lists.specs.Places.{At, erase}
 use Rattle.machine.specs.Sound.{Own, Roll}
-use Rattle.machine.specs.Tests.{asks, regs, same}
 use Rattle.machine.specs.Types.{Asked, Registration}
 use Rattle.records.specs.declared.BlockTime.{BlockTime}
 

@@ -11,7 +11,7 @@ use Rattle.lists.proofs.Places.{at_lt, at_snoc, length_erase, length_snoc}
 use Rattle.lists.specs.Places.{At, erase}
 use Rattle.machine.specs.Rooms.{key_room, registration_room, request_room, text_limit, text_room}
 use Rattle.machine.specs.Sound.{Rooms}
-use Rattle.machine.specs.Tests.{asks, regs, used}
+use Rattle.machine.specs.Tests.{used}
 use Rattle.machine.specs.Types.{Asked, Registration}
 use Rattle.records.specs.declared.BlockTime.{BlockTime}
 

@@ -1,6 +1,6 @@
 -- In a sound ledger a request is live exactly if its registration is not over; and while it is undecided, its key's pending count is not 0. Assumes nothing.
 use mathlib.Core.Path.{◌∙◌, ◌≡◌, ap, refl, sym}
-use Prim.Native.Nat.{◌<◌, ◌≤◌, one, ℕ}
+use Prim.Native.Nat.{◌<◌, ◌≤◌, ℕ}
 use lib.ListN.{get_elem?}
 use mathlib.Core.Bool.{Bool, false, not, true}
 use mathlib.Core.Option.{Option, none, some}

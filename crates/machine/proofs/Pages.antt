@@ -1,13 +1,11 @@
 -- A page of a sound ledger has an entry for each of its slots, in order, and each entry is its request's proof; the log has room. Assumes nothing.
 use mathlib.Core.Path.{◌∙◌, ◌≡◌, ap, refl, sym}
 use Prim.Native.Nat.{◌+◌, ◌-◌, ◌<◌, ◌≤◌, suc, zero, ℕ}
-use borrow.Fn.PlainCycle.{is}
 use lib.ListN.{drop, get_elem?, length, length-map}
 use mathlib.Core.List.{List, [], ◌∷◌, map}
 use mathlib.Core.Option.{some}
 use native.Mathlib.Nat.{add-suc, add-zero, suc-add}
 use native.Mathlib.Omega.{arith}
-use types.Run.{from}
 use Rattle.lists.proofs.Places.{at_drop, at_head, at_nil, at_take, down, up}
 use Rattle.lists.proofs.Tallies.{tally_le, tally_lt}
 use Rattle.lists.specs.Places.{At, upto}

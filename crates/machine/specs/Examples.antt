@@ -1,9 +1,7 @@
 -- Document 01, 'Pump-side examples', as a list of sentences: after these changes, this is asked, and this is said. Owner 7; key A Agent of account 1; B Approver
 -- of 2; C Approver of 1. Assumes nothing.
 use Rattle.std.specs.Prelude.{◌+◌, suc, zero, ℕ, length, replicate, List, [], ◌++◌, ◌∷◌}
-use denote.Triple.Walked.{says}
 use Rattle.std.proofs.Math.Option.{Option, none, some}
-use types.Run.{from}
 use Rattle.machine.specs.Machine.{Did, Given, opened, run, step, told_by}
 use Rattle.machine.specs.Plan.{Outcome, did, refused}
 use Rattle.machine.specs.Reads.{entries, status}

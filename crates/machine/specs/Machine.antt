@@ -14,7 +14,7 @@ use Rattle.records.specs.declared.refusal.Refusal.TheVariants.{NotOwner, Indirec
 use Rattle.records.specs.declared.refusal.Refusal.TheVariants.{KeyNotRegistered, EmptyAction, ActionTooLong, TooManyPending, RequestNotFound, AlreadyApproved}
 use Rattle.records.specs.declared.refusal.Refusal.TheVariants.{AlreadyRejected, AgentRevoked, ActionMismatch, SelfApproval, LogFull, KeysFull, TextFull}
 use Rattle.lists.specs.Places.{erase}
-use Rattle.machine.specs.Types.{Bytes, Registration, Holder, Verdict, Decision, Undecided, Approved, Rejected, Asked, Request, Ledger}
+use Rattle.machine.specs.Types.{Bytes, Holder, Verdict, Decision, Undecided, Approved, Rejected, Asked, Request, Ledger}
 use Rattle.machine.specs.Types.{Change, add, revoke, request, approve, reject}
 use Rattle.machine.specs.Rooms.{key_room, registration_room, request_room, text_room, text_limit, pending_limit}
 use Rattle.machine.specs.Plan.{Plan, done, ◌>>=◌, ◌>>◌, refuse◌if◌, found, Outcome, outcome, refused, did}

@@ -2,7 +2,6 @@
 use Rattle.std.specs.Prelude.{◌+◌, ◌-◌, min, suc, ℕ, ltb, drop, length, take, Bool, ◌&&◌, false, true, List, [], ◌++◌, ◌∷◌}
 use Rattle.std.proofs.Math.ListN.{get_elem?}
 use Rattle.std.proofs.Math.Option.{Option, none, some}
-use types.Run.{from}
 use Rattle.machine.specs.Plan.{Outcome, Plan, ◌>>=◌, ◌>>◌, done, found, outcome, refuse◌if◌}
 use Rattle.machine.specs.Rooms.{largest, page_limit}
 use Rattle.machine.specs.Tests.{Place, live, same}
@@ -15,7 +14,6 @@ use Rattle.records.specs.declared.ProofRevocations.{ProofRevocations}
 use Rattle.records.specs.declared.Revocation.{Revocation}
 use Rattle.records.specs.declared.refusal.Refusal.TheVariants.{PageRoom, RequestNotFound}
 use Rattle.records.specs.declared.status.RequestStatus.{RequestStatus}
-use Rattle.records.specs.declared.Revocation.TheVariants as Revocation
 use Rattle.records.specs.declared.status.RequestStatus.TheVariants as Status
 
 -- ---- 'Status: 11'

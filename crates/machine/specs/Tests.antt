@@ -4,7 +4,7 @@ use Rattle.std.proofs.Math.Option.{Option, none, some}
 use Rattle.records.specs.declared.Role.{Role}
 use Rattle.records.specs.declared.Role.TheVariants.{Agent}
 use Rattle.records.specs.Roles.{role_number}
-use Rattle.machine.specs.Types.{Bytes, Registration, Holder, Decision, Undecided, Approved, Rejected, Asked, Request, Ledger}
+use Rattle.machine.specs.Types.{Bytes, Registration, Holder, Decision, Undecided, Approved, Rejected, Asked, Ledger}
 
 abbrev pub same : Bytes → Bytes → Bool
 same [] [] = true

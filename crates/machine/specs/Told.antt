@@ -8,10 +8,9 @@ use Rattle.records.specs.declared.Principal.{Principal}
 use Rattle.records.specs.declared.Approval.{Approval}
 use Rattle.records.specs.declared.Rejection.{Rejection}
 use Rattle.records.specs.declared.Mark.{Mark}
-use Rattle.records.specs.declared.Mark.TheVariants as Mark
 use Rattle.records.specs.declared.ActionRequest.{ActionRequest}
 use Rattle.records.specs.declared.ApprovalProof.{ApprovalProof}
-use Rattle.machine.specs.Types.{Bytes, Holder, Verdict, Decision, Undecided, Approved, Rejected, Asked, Request}
+use Rattle.machine.specs.Types.{Bytes, Holder, Verdict, Decision, Undecided, Approved, Rejected, Asked}
 
 -- a record, and the text that belongs to it
 pub record Texted (A : Type 0) : Type 0 where

@@ -20,8 +20,6 @@ use Rattle.records.specs.declared.Revocation.{Revocation}
 use Rattle.records.specs.declared.Role.TheVariants.{Agent, Approver}
 use Rattle.records.specs.declared.refusal.Refusal.TheVariants.{PageRoom, RequestNotFound}
 use Rattle.records.specs.declared.status.RequestStatus.{RequestStatus}
-use Rattle.records.specs.declared.Mark.TheVariants as Mark
-use Rattle.records.specs.declared.Revocation.TheVariants as Revocation
 
 abbrev pub at_time : ℕ → BlockTime
 at_time n = record { height = n; timestamp_ns = 100 + n }
