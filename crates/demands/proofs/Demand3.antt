@@ -127,7 +127,7 @@ module _ {owner : ℕ} {z t u : Tables} {r : Answer} {cs : List Change} {hs : Li
 walk_more : (limit : ℕ) (w : Walk) (css : List (List Change)) (cs : List Change)
     → walk limit w (css ++ cs ∷ []) ≡ record { ledger = run (walk limit w css).ledger cs; listed = (walk limit w css).listed ++ due limit (walk limit w css) }
 walk_more limit w [] cs = refl
-walk_more limit w (ds ∷ css) cs = walk_more limit _ css cs
+walk_more limit w (ds ∷ css) cs = walk_more limit (record { ledger = run w.ledger ds; listed = w.listed ++ due limit w }) css cs
 
 -- a page that was not refused is the machine's
 page_was : (L : Ledger) (room : List (List ℕ)) (start limit k : ℕ) (out : PageOut) → out ≡ paged room (outcome (page_into L start limit (length room))) → out.answer ≡ Paged.Entries k
