@@ -13,7 +13,6 @@ use Rattle.machine.specs.Plan.{Outcome, Plan, outcome, refused}
 use Rattle.machine.specs.Tests.{same}
 use Rattle.machine.specs.Types.{Ledger}
 use Rattle.records.specs.declared.refusal.Refusal.{Refusal}
-use Rattle.tables.specs.Parts.{owner}
 use Rattle.tables.specs.Tables.{Stands, Tables, tables_of}
 
 module _ {A : Type 0} (call : Call A) {t : Tables} where
