@@ -30,7 +30,6 @@ use Rattle.records.specs.declared.Caller.{Caller}
 use Rattle.records.specs.declared.PageEntry.{PageEntry}
 use Rattle.records.specs.declared.Role.{Role}
 use Rattle.records.specs.declared.refusal.Refusal.{Refusal}
-use Rattle.tables.specs.Parts.{owner}
 use Rattle.tables.specs.Tables.{Tables}
 
 -- any two outcomes that the promise of a call allows are the same

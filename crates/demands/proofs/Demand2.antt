@@ -18,7 +18,7 @@ use Rattle.machine.specs.Sound.{slot}
 use Rattle.machine.specs.Types.{Holder, Ledger, Request}
 use Rattle.tables.proofs.Laid.{Laid, laid}
 use Rattle.tables.proofs.Rows.{holder_row_lem, log_row_lem, made_is}
-use Rattle.tables.specs.Parts.{cell, holders, log, made, owner}
+use Rattle.tables.specs.Parts.{cell, holders, log, made}
 use Rattle.tables.specs.Tables.{Sized, Standing, Stands, Tables}
 
 -- opening, of tables of the right lengths, whatever they held

@@ -36,20 +36,15 @@ use Rattle.lists.specs.Tallies.{tally}
 use Rattle.machine.specs.Machine.{opened, run}
 use Rattle.machine.specs.Plan.{Outcome, did, outcome, refused}
 use Rattle.machine.specs.Reads.{entries, page, page_into, revocation_by, status}
-use Rattle.machine.specs.Tests.{next}
 use Rattle.machine.specs.Types.{Change, Holder, Ledger}
-use Rattle.records.proofs.Letters.{said}
 use Rattle.records.specs.declared.BlockTime.{BlockTime}
 use Rattle.records.specs.declared.PageEntry.{PageEntry}
 use Rattle.records.specs.declared.refusal.Refusal.TheVariants.{PageRoom}
 use Rattle.records.specs.declared.status.RequestStatus.{RequestStatus}
 use Rattle.tables.proofs.Laid.{laid}
 use Rattle.tables.proofs.Rows.{holder_row_lem, log_count_is, log_row_lem}
-use Rattle.tables.specs.Parts.{cell, holders, log, log_count, owner}
+use Rattle.tables.specs.Parts.{cell, holders, log, log_count}
 use Rattle.tables.specs.Tables.{Sized, Stands, Tables, tables_of}
-use Rattle.answers.specs.declared.StatusAnswer.TheVariants as StatusAnswer
-use Rattle.answers.specs.declared.RevocationsAnswer.TheVariants as RevocationsAnswer
-use Rattle.answers.specs.declared.Paged.TheVariants as Paged
 
 -- tables t were opened for the owner, and then the calls were made: the changes cs with the answers hs, accepted or refused, led to the tables u
 module _ {owner : ℕ} {z t u : Tables} {r : Answer} {cs : List Change} {hs : List Heard} (o : Opens owner z t r) (s : Sized z) (calls : Calls t cs hs u) where

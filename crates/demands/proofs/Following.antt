@@ -12,10 +12,8 @@ use Rattle.machine.proofs.Keep.{left_giving}
 use Rattle.machine.specs.Machine.{Did, Given, action, add_to, approve_in, giving, left, principal, proof, reject_in, request_in, revoke_in, run, step}
 use Rattle.machine.specs.Plan.{Outcome, Plan, ◌>>=◌, did, outcome, refused}
 use Rattle.machine.specs.Reads.{approval, page_into, revocations, status}
-use Rattle.machine.specs.Tests.{same}
 use Rattle.machine.specs.Types.{Change, Ledger, add, approve, reject, request, revoke}
 use Rattle.tables.specs.Tables.{Stands, Tables}
-use Rattle.answers.specs.declared.RevocationsAnswer.TheVariants as RevocationsAnswer
 
 -- ---- one call
 pub record Followed (L : Ledger) (cs : List Change) (hs : List Heard) (u : Tables) : Type 0 where

@@ -15,8 +15,8 @@ use Rattle.answers.specs.Does.{Does}
 use Rattle.lists.proofs.Places.{at_append}
 use Rattle.lists.specs.Places.{At}
 use Rattle.machine.proofs.Pages.{page_entry}
-use Rattle.machine.specs.Plan.{did, outcome, refused}
-use Rattle.machine.specs.Reads.{approval, entries, entry, page_into}
+use Rattle.machine.specs.Plan.{did, refused}
+use Rattle.machine.specs.Reads.{approval, entries, entry}
 use Rattle.machine.specs.Told.{Texted}
 use Rattle.machine.specs.Types.{Ledger}
 use Rattle.records.specs.declared.ApprovalProof.{ApprovalProof}
