@@ -1,9 +1,5 @@
 -- Demand 1, for every call at once: any two outcomes that the promise allows are the same; and a refused call changes no byte. Assumes nothing.
-use mathlib.Core.Logic.{inl, inr}
-use mathlib.Core.Path.{◌∙◌, ◌≡◌, ap, sym}
-use Prim.Native.Nat.{ℕ}
-use denote.Ref.{Bor}
-use mathlib.Core.List.{List}
+use Rattle.std.proofs.Common.{inl, inr, ◌∙◌, ◌≡◌, ap, sym, ℕ, Bor, List}
 use Rattle.answers.specs.Calls.{change_call}
 use Rattle.answers.specs.Does.{Call, Does, Opens}
 use Rattle.answers.specs.Texts.{Extent, Lies, TextRead}

@@ -1,15 +1,9 @@
 -- Demand 3: open tables for an owner, make any calls without opening again, let nothing else write the tables: the accepted changes determine the tables, and what the public reads
 -- answer is what they tell. Replaying them alone into other tables gives each the same answer and the same bytes. A walk by pages lists the log. Assumes nothing.
-use mathlib.Core.Logic.{◌↔◌, ◌≢◌}
-use mathlib.Core.Path.{◌∙◌, ◌≡◌, ap, refl, subst, sym}
-use Prim.Native.Nat.{◌<◌, ◌≤◌, ℕ}
-use lib.Dec.{ltb}
-use lib.ListN.{drop, get_or, get_elem?, length, length-map, take}
-use lib.Seq.{take_at}
-use mathlib.Core.Bool.{Bool, cond, false, true}
-use mathlib.Core.List.{List, [], ◌++◌, ◌∷◌, map, map-append}
+use Rattle.std.proofs.Common.{◌↔◌, ◌≢◌, ◌∙◌, ◌≡◌, ap, refl, subst, sym, ◌<◌, ◌≤◌, ℕ, ltb, drop, get_or, length, take, take_at, Bool, cond, false, true, List, [], ◌++◌, ◌∷◌, map, arith}
+use lib.ListN.{get_elem?, length-map}
+use mathlib.Core.List.{map-append}
 use mathlib.Core.Option.{Option, some}
-use native.Mathlib.Omega.{arith}
 use Rattle.answers.specs.Answers.{PageOut, entry_row, paged, status_answer}
 use Rattle.answers.specs.Calls.{page_call, revocations_call, status_call}
 use Rattle.answers.specs.Does.{Does, Opens}
@@ -64,11 +58,11 @@ module _ {owner : ℕ} {z t u : Tables} {r : Answer} {cs : List Change} {hs : Li
       ((λ e. said ∙ is (status (run (opened owner) cs) n.0) (sym told ∙ e)), (λ e. told ∙ back (status (run (opened owner) cs) n.0) (sym said ∙ e)))
     where
       is : (o : Outcome RequestStatus) → answer_of o ≡ some x → status_answer o ≡ StatusAnswer.Is x
-      is (refused e) q = let y : ◌≡◌ {A = ℕ} 0 1 = cc in absurd (omega arith)
+      is (refused e) q = cc
       is (did y) q = let w : y ≡ x = cc in ap StatusAnswer.Is w
 
       back : (o : Outcome RequestStatus) → status_answer o ≡ StatusAnswer.Is x → answer_of o ≡ some x
-      back (refused e) q = let y : ◌≡◌ {A = ℕ} 0 1 = cc in absurd (omega arith)
+      back (refused e) q = cc
       back (did y) q = let w : y ≡ x = cc in ap some w
 
   -- a registered key's pending count
@@ -109,7 +103,7 @@ module _ {owner : ℕ} {z t u : Tables} {r : Answer} {cs : List Change} {hs : Li
       (again.sound (run L ds) then.stands_then).0 ∙ ap status_answer (final_run x fin L st.sound n.0 here ds)
     where
       was : (o : Outcome RequestStatus) → status_answer o ≡ StatusAnswer.Is x → o ≡ did x
-      was (refused e) q = let y : ◌≡◌ {A = ℕ} 0 1 = cc in absurd (omega arith)
+      was (refused e) q = cc
       was (did y) q = let w : y ≡ x = cc in ap did w
 
   -- ---- replay: the accepted changes alone, made on other tables opened for that owner
@@ -133,7 +127,7 @@ page_was L room start limit k out e q = go (ltb (length room) (length (entries L
     es = entries L start limit
 
     go : (b : Bool) → out ≡ paged room (cond b (refused PageRoom) (did es)) → (k ≡ length es) × (take k out.rows ≡ map entry_row es)
-    go true e = let z : Paged.Entries k ≡ Paged.Refused PageRoom = sym q ∙ ap (λ (x : PageOut). x.answer) e in let y : ◌≡◌ {A = ℕ} 0 1 = cc in absurd (omega arith)
+    go true e = let z : Paged.Entries k ≡ Paged.Refused PageRoom = sym q ∙ ap (λ (x : PageOut). x.answer) e in cc
     go false e =
         let z : Paged.Entries k ≡ Paged.Entries (length es) = sym q ∙ ap (λ (x : PageOut). x.answer) e in
         let n : k ≡ length es = cc in

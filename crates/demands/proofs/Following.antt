@@ -1,7 +1,5 @@
 -- Tables follow the machine: after any calls on tables that hold a sound ledger they hold the machine's, and the answers were the machine's. Assumes nothing.
-use mathlib.Core.Path.{◌∙◌, ◌≡◌, ap, refl, subst, sym}
-use lib.ListN.{length}
-use mathlib.Core.List.{List, [], ◌++◌, ◌∷◌}
+use Rattle.std.proofs.Common.{◌∙◌, ◌≡◌, ap, refl, subst, sym, length, List, [], ◌++◌, ◌∷◌}
 use Rattle.answers.specs.Answers.{entered, paged, proved, registered, requested, shown, status_answer}
 use Rattle.answers.specs.Calls.{add_call, approval_call, approve_call, change_call, entries_call, page_call, read_call, reject_call, request_call, revocations_call, revoke_call, status_call}
 use Rattle.answers.specs.Does.{Does}
