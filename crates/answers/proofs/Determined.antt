@@ -1,9 +1,5 @@
 -- Demand 1, for every call at once: any two outcomes that the promise allows are the same; and a refused call changes no byte. Assumes nothing.
-use mathlib.Core.Logic.{inl, inr}
-use mathlib.Core.Path.{◌∙◌, ◌≡◌, ap, sym}
-use Prim.Native.Nat.{ℕ}
-use denote.Ref.{Bor}
-use mathlib.Core.List.{List}
+use Rattle.std.proofs.Common.{inl, inr, ◌∙◌, ◌≡◌, ap, sym, ℕ, Bor, List}
 use Rattle.answers.specs.Calls.{change_call}
 use Rattle.answers.specs.Does.{Call, Does, Opens}
 use Rattle.answers.specs.Texts.{Extent, Lies, TextRead}
@@ -13,7 +9,6 @@ use Rattle.machine.specs.Plan.{Outcome, Plan, outcome, refused}
 use Rattle.machine.specs.Tests.{same}
 use Rattle.machine.specs.Types.{Ledger}
 use Rattle.records.specs.declared.refusal.Refusal.{Refusal}
-use Rattle.tables.specs.Parts.{owner}
 use Rattle.tables.specs.Tables.{Stands, Tables, tables_of}
 
 module _ {A : Type 0} (call : Call A) {t : Tables} where

@@ -1,9 +1,8 @@
 -- The ways to meet the promise: a return that refuses, one that did what the machine does, one that only read; and a public call, as its check and its part. Assumes nothing.
-use mathlib.Core.Logic.{inl, inr}
-use mathlib.Core.Path.{◌∙◌, ◌≡◌, ap, refl, subst, sym}
+use Rattle.std.proofs.Common.{inl, inr, ◌∙◌, ◌≡◌, ap, refl, subst, sym}
 use Rattle.answers.specs.Calls.{change_call, read_call}
 use Rattle.answers.specs.Does.{Call, Does, Part}
-use Rattle.machine.specs.Machine.{Did, left, plan}
+use Rattle.machine.specs.Machine.{Did, left}
 use Rattle.machine.specs.Plan.{Outcome, Plan, did, outcome, refused}
 use Rattle.machine.specs.Sound.{Sound}
 use Rattle.machine.specs.Types.{Ledger}

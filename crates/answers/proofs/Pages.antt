@@ -1,8 +1,7 @@
 -- Both pages tell the same: the numbers are those of the records. Assumes nothing.
-use mathlib.Core.Path.{◌∙◌, ◌≡◌, ap, refl, sym}
-use lib.ListN.{drop, length, length-map}
-use mathlib.Core.List.{List, [], ◌++◌, ◌∷◌, map, map-append}
-use Prim.Native.Nat.{suc, zero, ℕ}
+use Rattle.std.proofs.Common.{◌∙◌, ◌≡◌, ap, refl, sym, drop, length, List, [], ◌++◌, ◌∷◌, map, suc, zero, ℕ}
+use lib.ListN.{length-map}
+use mathlib.Core.List.{map-append}
 use Rattle.answers.specs.Answers.{EntriesOut, PageOut, entered, entry_row, paged}
 use Rattle.answers.specs.Calls.{entries_call, page_call}
 use Rattle.answers.specs.Does.{Does}

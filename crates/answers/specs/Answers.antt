@@ -21,11 +21,6 @@ use Rattle.records.specs.declared.PageEntry.{PageEntry}
 use Rattle.records.specs.declared.Principal.{Principal}
 use Rattle.records.specs.declared.status.RequestStatus.{RequestStatus}
 use Rattle.rows.specs.Zeros.{zero_key}
-use Rattle.answers.specs.declared.Registered.TheVariants as Registered
-use Rattle.answers.specs.declared.Answer.TheVariants as Answer
-use Rattle.answers.specs.declared.StatusAnswer.TheVariants as StatusAnswer
-use Rattle.answers.specs.declared.ProofAnswer.TheVariants as ProofAnswer
-use Rattle.answers.specs.declared.Paged.TheVariants as Paged
 
 -- ---- records of nothing
 abbrev pub no_asked : Asked

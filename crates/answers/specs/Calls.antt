@@ -22,11 +22,6 @@ use Rattle.records.specs.declared.Caller.{Caller}
 use Rattle.records.specs.declared.PageEntry.{PageEntry}
 use Rattle.records.specs.declared.Role.{Role}
 use Rattle.records.specs.declared.refusal.Refusal.TheVariants.{Damaged}
-use Rattle.answers.specs.declared.Registered.TheVariants as Registered
-use Rattle.answers.specs.declared.StatusAnswer.TheVariants as StatusAnswer
-use Rattle.answers.specs.declared.ProofAnswer.TheVariants as ProofAnswer
-use Rattle.answers.specs.declared.Paged.TheVariants as Paged
-use Rattle.answers.specs.declared.RevocationsAnswer.TheVariants as RevocationsAnswer
 
 -- a change: the ledger after it is the machine's, and a refusal leaves it as it was
 abbrev pub change_call : {A B : Type 0} → (Outcome (Did A) → B) → (Ledger → Plan (Did A)) → Call B

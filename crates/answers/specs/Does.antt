@@ -5,7 +5,6 @@ use Rattle.answers.specs.declared.Answer.TheVariants.{Done, Refused}
 use Rattle.machine.specs.Machine.{opened}
 use Rattle.machine.specs.Types.{Ledger}
 use Rattle.records.specs.declared.refusal.Refusal.TheVariants.{Damaged}
-use Rattle.tables.specs.Parts.{owner}
 use Rattle.tables.specs.Tables.{Sized, Standing, Stands, Tables}
 
 -- a call: its answer where the tables hold no sound ledger; and for a sound ledger its answer, and the ledger after it

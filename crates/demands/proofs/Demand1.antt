@@ -1,13 +1,6 @@
 -- Demand 1: every public call's answer, and every byte that it leaves, is determined; and a refused call changes no byte of a table or page. (That every call ends, for any
 -- arguments and any tables, is what it means that it is proved with no `requires`.) Assumes nothing.
-use mathlib.Core.Logic.{inl, inr}
-use mathlib.Core.Path.{◌∙◌, ◌≡◌, ap, refl, sym}
-use Prim.Native.Nat.{ℕ}
-use denote.Ref.{Bor}
-use lib.ListN.{length}
-use mathlib.Core.Bool.{Bool, false, true}
-use mathlib.Core.List.{List}
-use native.Mathlib.Omega.{arith}
+use Rattle.std.proofs.Common.{inl, inr, ◌∙◌, ◌≡◌, ap, refl, sym, ℕ, Bor, length, Bool, false, true, List}
 use Rattle.answers.proofs.Determined.{determined, opens_determined, refusal_changes_nothing, text_determined, unchanged}
 use Rattle.answers.specs.Answers.{EntriesOut, PageOut, entered, paged, proved, registered, requested}
 use Rattle.answers.specs.Calls.{add_call, approve_call, change_call, entries_call, page_call, read_call, reject_call, request_call, revoke_call}
@@ -30,7 +23,6 @@ use Rattle.records.specs.declared.Caller.{Caller}
 use Rattle.records.specs.declared.PageEntry.{PageEntry}
 use Rattle.records.specs.declared.Role.{Role}
 use Rattle.records.specs.declared.refusal.Refusal.{Refusal}
-use Rattle.tables.specs.Parts.{owner}
 use Rattle.tables.specs.Tables.{Tables}
 
 -- any two outcomes that the promise of a call allows are the same
@@ -47,7 +39,7 @@ every_text = text_determined
 module _ {A B : Type 0} (tell : Outcome (Did A) → B) (is-refusal : B → Bool) (done-is-none : (d : Did A) → is-refusal (tell (did d)) ≡ false) where
   refused_then : (o : Outcome (Did A)) → is-refusal (tell o) ≡ true → (e : Refusal) × (o ≡ refused e)
   refused_then (refused e) h = (e, refl)
-  refused_then (did d) h = let z = done-is-none d in let y : ◌≡◌ {A = ℕ} 0 1 = cc in absurd (omega arith)
+  refused_then (did d) h = let z = done-is-none d in cc
 
   nothing_changed : (plan : Ledger → Plan (Did A)) {t u : Tables} {r : B} → Does (change_call tell plan) t u r → is-refusal r ≡ true → u ≡ t
   nothing_changed plan d h = refusal_changes_nothing tell plan d (λ L st. refused_then (outcome (plan L)) (ap is-refusal (sym (d.sound L st).0) ∙ h))
@@ -88,7 +80,7 @@ module _ {A O : Type 0} (lent : O → A) (answer : O → Paged) (out : Outcome (
     where
       go : (o : Outcome (List PageEntry)) → r ≡ out o → lent r ≡ was
       go (refused e) q = ap lent q ∙ at-refusal e
-      go (did es) q = let z : true ≡ false = sym h ∙ ap (λ (x : O). refuses_to_page (answer x)) q ∙ not-then es in let y : ◌≡◌ {A = ℕ} 0 1 = cc in absurd (omega arith)
+      go (did es) q = let z : true ≡ false = sym h ∙ ap (λ (x : O). refuses_to_page (answer x)) q ∙ not-then es in cc
 
 pub refused_page : (rows : List (List ℕ)) (start limit : ℕ) {t u : Tables} {r : PageOut} → Does (page_call rows start limit) t u r → refuses_to_page r.answer ≡ true → r.rows ≡ rows
 unfolding page_call

@@ -1,10 +1,6 @@
 -- Demand 2: opening gives a sound ledger and every call keeps it so, by the promise itself; and in tables that hold a sound ledger what the source's contracts leave open is
 -- closed: pending counts, log slots, registrations. Assumes nothing.
-use mathlib.Core.Logic.{◌↔◌, ◌⊎◌}
-use mathlib.Core.Path.{◌∙◌, ◌≡◌, ap}
-use Prim.Native.Nat.{◌<◌, ◌≤◌, ℕ}
-use lib.ListN.{get_or}
-use mathlib.Core.List.{List}
+use Rattle.std.proofs.Common.{◌↔◌, ◌⊎◌, ◌∙◌, ◌≡◌, ap, ◌<◌, ◌≤◌, ℕ, get_or, List}
 use mathlib.Core.Option.{some}
 use Rattle.answers.specs.Does.{Call, Does, Opens}
 use Rattle.answers.specs.declared.Answer.{Answer}
@@ -18,7 +14,7 @@ use Rattle.machine.specs.Sound.{slot}
 use Rattle.machine.specs.Types.{Holder, Ledger, Request}
 use Rattle.tables.proofs.Laid.{Laid, laid}
 use Rattle.tables.proofs.Rows.{holder_row_lem, log_row_lem, made_is}
-use Rattle.tables.specs.Parts.{cell, holders, log, made, owner}
+use Rattle.tables.specs.Parts.{cell, holders, log, made}
 use Rattle.tables.specs.Tables.{Sized, Standing, Stands, Tables}
 
 -- opening, of tables of the right lengths, whatever they held

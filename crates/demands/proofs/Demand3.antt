@@ -1,15 +1,9 @@
 -- Demand 3: open tables for an owner, make any calls without opening again, let nothing else write the tables: the accepted changes determine the tables, and what the public reads
 -- answer is what they tell. Replaying them alone into other tables gives each the same answer and the same bytes. A walk by pages lists the log. Assumes nothing.
-use mathlib.Core.Logic.{◌↔◌, ◌≢◌}
-use mathlib.Core.Path.{◌∙◌, ◌≡◌, ap, refl, subst, sym}
-use Prim.Native.Nat.{◌<◌, ◌≤◌, ℕ}
-use lib.Dec.{ltb}
-use lib.ListN.{drop, get_or, get_elem?, length, length-map, take}
-use lib.Seq.{take_at}
-use mathlib.Core.Bool.{Bool, cond, false, true}
-use mathlib.Core.List.{List, [], ◌++◌, ◌∷◌, map, map-append}
+use Rattle.std.proofs.Common.{◌↔◌, ◌≢◌, ◌∙◌, ◌≡◌, ap, refl, subst, sym, ◌<◌, ◌≤◌, ℕ, ltb, drop, get_or, length, take, take_at, Bool, cond, false, true, List, [], ◌++◌, ◌∷◌, map, arith}
+use lib.ListN.{get_elem?, length-map}
+use mathlib.Core.List.{map-append}
 use mathlib.Core.Option.{Option, some}
-use native.Mathlib.Omega.{arith}
 use Rattle.answers.specs.Answers.{PageOut, entry_row, paged, status_answer}
 use Rattle.answers.specs.Calls.{page_call, revocations_call, status_call}
 use Rattle.answers.specs.Does.{Does, Opens}
@@ -36,20 +30,15 @@ use Rattle.lists.specs.Tallies.{tally}
 use Rattle.machine.specs.Machine.{opened, run}
 use Rattle.machine.specs.Plan.{Outcome, did, outcome, refused}
 use Rattle.machine.specs.Reads.{entries, page, page_into, revocation_by, status}
-use Rattle.machine.specs.Tests.{next}
 use Rattle.machine.specs.Types.{Change, Holder, Ledger}
-use Rattle.records.proofs.Letters.{said}
 use Rattle.records.specs.declared.BlockTime.{BlockTime}
 use Rattle.records.specs.declared.PageEntry.{PageEntry}
 use Rattle.records.specs.declared.refusal.Refusal.TheVariants.{PageRoom}
 use Rattle.records.specs.declared.status.RequestStatus.{RequestStatus}
 use Rattle.tables.proofs.Laid.{laid}
 use Rattle.tables.proofs.Rows.{holder_row_lem, log_count_is, log_row_lem}
-use Rattle.tables.specs.Parts.{cell, holders, log, log_count, owner}
+use Rattle.tables.specs.Parts.{cell, holders, log, log_count}
 use Rattle.tables.specs.Tables.{Sized, Stands, Tables, tables_of}
-use Rattle.answers.specs.declared.StatusAnswer.TheVariants as StatusAnswer
-use Rattle.answers.specs.declared.RevocationsAnswer.TheVariants as RevocationsAnswer
-use Rattle.answers.specs.declared.Paged.TheVariants as Paged
 
 -- tables t were opened for the owner, and then the calls were made: the changes cs with the answers hs, accepted or refused, led to the tables u
 module _ {owner : ℕ} {z t u : Tables} {r : Answer} {cs : List Change} {hs : List Heard} (o : Opens owner z t r) (s : Sized z) (calls : Calls t cs hs u) where
@@ -69,11 +58,11 @@ module _ {owner : ℕ} {z t u : Tables} {r : Answer} {cs : List Change} {hs : Li
       ((λ e. said ∙ is (status (run (opened owner) cs) n.0) (sym told ∙ e)), (λ e. told ∙ back (status (run (opened owner) cs) n.0) (sym said ∙ e)))
     where
       is : (o : Outcome RequestStatus) → answer_of o ≡ some x → status_answer o ≡ StatusAnswer.Is x
-      is (refused e) q = let y : ◌≡◌ {A = ℕ} 0 1 = cc in absurd (omega arith)
+      is (refused e) q = cc
       is (did y) q = let w : y ≡ x = cc in ap StatusAnswer.Is w
 
       back : (o : Outcome RequestStatus) → status_answer o ≡ StatusAnswer.Is x → answer_of o ≡ some x
-      back (refused e) q = let y : ◌≡◌ {A = ℕ} 0 1 = cc in absurd (omega arith)
+      back (refused e) q = cc
       back (did y) q = let w : y ≡ x = cc in ap some w
 
   -- a registered key's pending count
@@ -114,7 +103,7 @@ module _ {owner : ℕ} {z t u : Tables} {r : Answer} {cs : List Change} {hs : Li
       (again.sound (run L ds) then.stands_then).0 ∙ ap status_answer (final_run x fin L st.sound n.0 here ds)
     where
       was : (o : Outcome RequestStatus) → status_answer o ≡ StatusAnswer.Is x → o ≡ did x
-      was (refused e) q = let y : ◌≡◌ {A = ℕ} 0 1 = cc in absurd (omega arith)
+      was (refused e) q = cc
       was (did y) q = let w : y ≡ x = cc in ap did w
 
   -- ---- replay: the accepted changes alone, made on other tables opened for that owner
@@ -127,7 +116,7 @@ module _ {owner : ℕ} {z t u : Tables} {r : Answer} {cs : List Change} {hs : Li
 walk_more : (limit : ℕ) (w : Walk) (css : List (List Change)) (cs : List Change)
     → walk limit w (css ++ cs ∷ []) ≡ record { ledger = run (walk limit w css).ledger cs; listed = (walk limit w css).listed ++ due limit (walk limit w css) }
 walk_more limit w [] cs = refl
-walk_more limit w (ds ∷ css) cs = walk_more limit _ css cs
+walk_more limit w (ds ∷ css) cs = walk_more limit (record { ledger = run w.ledger ds; listed = w.listed ++ due limit w }) css cs
 
 -- a page that was not refused is the machine's
 page_was : (L : Ledger) (room : List (List ℕ)) (start limit k : ℕ) (out : PageOut) → out ≡ paged room (outcome (page_into L start limit (length room))) → out.answer ≡ Paged.Entries k
@@ -138,7 +127,7 @@ page_was L room start limit k out e q = go (ltb (length room) (length (entries L
     es = entries L start limit
 
     go : (b : Bool) → out ≡ paged room (cond b (refused PageRoom) (did es)) → (k ≡ length es) × (take k out.rows ≡ map entry_row es)
-    go true e = let z : Paged.Entries k ≡ Paged.Refused PageRoom = sym q ∙ ap (λ (x : PageOut). x.answer) e in let y : ◌≡◌ {A = ℕ} 0 1 = cc in absurd (omega arith)
+    go true e = let z : Paged.Entries k ≡ Paged.Refused PageRoom = sym q ∙ ap (λ (x : PageOut). x.answer) e in cc
     go false e =
         let z : Paged.Entries k ≡ Paged.Entries (length es) = sym q ∙ ap (λ (x : PageOut). x.answer) e in
         let n : k ≡ length es = cc in

@@ -1,7 +1,5 @@
 -- Tables follow the machine: after any calls on tables that hold a sound ledger they hold the machine's, and the answers were the machine's. Assumes nothing.
-use mathlib.Core.Path.{◌∙◌, ◌≡◌, ap, refl, subst, sym}
-use lib.ListN.{length}
-use mathlib.Core.List.{List, [], ◌++◌, ◌∷◌}
+use Rattle.std.proofs.Common.{◌∙◌, ◌≡◌, ap, refl, subst, sym, length, List, [], ◌++◌, ◌∷◌}
 use Rattle.answers.specs.Answers.{entered, paged, proved, registered, requested, shown, status_answer}
 use Rattle.answers.specs.Calls.{add_call, approval_call, approve_call, change_call, entries_call, page_call, read_call, reject_call, request_call, revocations_call, revoke_call, status_call}
 use Rattle.answers.specs.Does.{Does}
@@ -12,10 +10,8 @@ use Rattle.machine.proofs.Keep.{left_giving}
 use Rattle.machine.specs.Machine.{Did, Given, action, add_to, approve_in, giving, left, principal, proof, reject_in, request_in, revoke_in, run, step}
 use Rattle.machine.specs.Plan.{Outcome, Plan, ◌>>=◌, did, outcome, refused}
 use Rattle.machine.specs.Reads.{approval, page_into, revocations, status}
-use Rattle.machine.specs.Tests.{same}
 use Rattle.machine.specs.Types.{Change, Ledger, add, approve, reject, request, revoke}
 use Rattle.tables.specs.Tables.{Stands, Tables}
-use Rattle.answers.specs.declared.RevocationsAnswer.TheVariants as RevocationsAnswer
 
 -- ---- one call
 pub record Followed (L : Ledger) (cs : List Change) (hs : List Heard) (u : Tables) : Type 0 where

@@ -1,22 +1,15 @@
 -- What a page of records shows, by the public promise: record k is slot `start` + k and its request's proof, and records past the page are as they were lent. Assumes nothing.
-use mathlib.Core.Bool.{Bool, cond, false, true}
-use mathlib.Core.Logic.{inl, inr}
+use Rattle.std.proofs.Common.{Bool, cond, false, true, inl, inr, ◌∙◌, ◌≡◌, ap, subst, sym, ltb, drop, length, List, ◌++◌, arith, ◌+◌, ◌<◌, ℕ}
 use mathlib.Core.Option.{some}
-use mathlib.Core.Path.{◌∙◌, ◌≡◌, ap, subst, sym}
-use lib.Dec.{ltb}
-use lib.ListN.{drop, length}
 use lib.Seq.{drop-append_seam}
-use mathlib.Core.List.{List, ◌++◌}
-use native.Mathlib.Omega.{arith}
-use Prim.Native.Nat.{◌+◌, ◌<◌, ℕ}
 use Rattle.answers.specs.Answers.{EntriesOut, entered}
 use Rattle.answers.specs.Calls.{entries_call}
 use Rattle.answers.specs.Does.{Does}
 use Rattle.lists.proofs.Places.{at_append}
 use Rattle.lists.specs.Places.{At}
 use Rattle.machine.proofs.Pages.{page_entry}
-use Rattle.machine.specs.Plan.{did, outcome, refused}
-use Rattle.machine.specs.Reads.{approval, entries, entry, page_into}
+use Rattle.machine.specs.Plan.{did, refused}
+use Rattle.machine.specs.Reads.{approval, entries, entry}
 use Rattle.machine.specs.Told.{Texted}
 use Rattle.machine.specs.Types.{Ledger}
 use Rattle.records.specs.declared.ApprovalProof.{ApprovalProof}
@@ -35,7 +28,7 @@ module _ {t u : Tables} (L : Ledger) (st : Stands t L) (page : List PageEntry) (
   page_is = go (ltb (length page) (length es)) (d.sound L st).0
     where
       go : (b : Bool) → r ≡ entered page (cond b (refused PageRoom) (did es)) → (n ≡ length es) × (r.page ≡ es ++ drop (length es) page)
-      go true e = let z : Paged.Entries n ≡ Paged.Refused PageRoom = sym told ∙ ap (λ (x : EntriesOut). x.answer) e in let y : ◌≡◌ {A = ℕ} 0 1 = cc in absurd (omega arith)
+      go true e = let z : Paged.Entries n ≡ Paged.Refused PageRoom = sym told ∙ ap (λ (x : EntriesOut). x.answer) e in cc
       go false e = let z : Paged.Entries n ≡ Paged.Entries (length es) = sym told ∙ ap (λ (x : EntriesOut). x.answer) e in (cc, ap (λ (x : EntriesOut). x.page) e)
 
   pub record_read : {k : ℕ} {e : PageEntry} → k < n → At r.page k e → (p : Texted ApprovalProof) × (approval L e.request_id.0 ≡ some p) × (e ≡ entry (start + k) p.is)

@@ -3,9 +3,6 @@ use Rattle.std.specs.Prelude.{Bool, false, true}
 use Rattle.answers.specs.declared.Answer.{Answer}
 use Rattle.answers.specs.declared.Paged.{Paged}
 use Rattle.answers.specs.declared.Registered.{Registered}
-use Rattle.answers.specs.declared.Answer.TheVariants as Answer
-use Rattle.answers.specs.declared.Registered.TheVariants as Registered
-use Rattle.answers.specs.declared.Paged.TheVariants as Paged
 
 abbrev pub refuses : Answer → Bool
 refuses Answer.Done = false

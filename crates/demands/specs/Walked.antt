@@ -7,7 +7,6 @@ use Rattle.answers.specs.declared.Paged.{Paged}
 use Rattle.demands.specs.Runs.{Calls, Heard}
 use Rattle.machine.specs.Types.{Change}
 use Rattle.tables.specs.Tables.{Tables}
-use Rattle.answers.specs.declared.Paged.TheVariants as Paged
 
 -- what has been read so far: the rows of each page, one page after the other. A page of records counts as that of its numbers (`crates/answers/proofs/Pages.antt`, `entries_are_numbers`)
 pub data Walked (limit : ℕ) (t : Tables) : List (List ℕ) → List (List Change) → Tables → Type 0 where

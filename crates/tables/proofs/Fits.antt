@@ -143,9 +143,9 @@ module _ {t : Tables} (L : Ledger) (s : Sound L) (l : Laid t L) where
 
   -- ---- the log
   approved_cells : (d : Decision) {j : ℕ} → slot d ≡ some j → (get_or (decided_row d) 0 0 ≡ 1) × (get_or (decided_row d) 1 0 ≡ j)
-  approved_cells Undecided e = let z : ◌≡◌ {A = ℕ} 0 1 = cc in absurd (omega arith)
+  approved_cells Undecided e = cc
   approved_cells (Approved i v) e = (refl, cc)
-  approved_cells (Rejected v) e = let z : ◌≡◌ {A = ℕ} 0 1 = cc in absurd (omega arith)
+  approved_cells (Rejected v) e = cc
 
   approved_slot : (d : Decision) → get_or (decided_row d) 0 0 ≡ 1 → slot d ≡ some (get_or (decided_row d) 1 0)
   approved_slot Undecided e = absurd (omega arith)

@@ -55,9 +55,9 @@ decode_decision {row = row} {key} v f e = go (eqb (get_or row 0 0) 0) refl (eqb 
           key_is = z.1;
           open_is = sym p;
           approved_is = sym not-one;
-          slot_is = λ i w. let y : ◌≡◌ {A = ℕ} 0 1 = cc in absurd (omega arith);
+          slot_is = λ i w. cc;
           slot_of = λ w. absurd (omega arith);
-          verdict_is = λ u w. let y : ◌≡◌ {A = ℕ} 0 1 = cc in absurd (omega arith);
+          verdict_is = λ u w. cc;
         }
     go false p true q =
         let mark = eqb-true (get_or row 0 0) 1 q in
@@ -79,7 +79,7 @@ decode_decision {row = row} {key} v f e = go (eqb (get_or row 0 0) 0) refl (eqb 
           key_is = cc e;
           open_is = sym p;
           approved_is = sym q;
-          slot_is = λ i w. let y : ◌≡◌ {A = ℕ} 0 1 = cc in absurd (omega arith);
+          slot_is = λ i w. cc;
           slot_of = λ w. absurd (one-not w);
           verdict_is = λ u w. (cc, zero-not);
         }
@@ -193,7 +193,7 @@ module _ {t : Tables} (f : Fit t) where
     where
       go : (b : Bool) → eqb (cell g 0 (revoked t)) 0 ≡ b → none ≡ cond b none (some (time_at (revoked t) g 1 2)) → cell g 0 (revoked t) ≡ 0
       go true q w = eqb-true (cell g 0 (revoked t)) 0 q
-      go false q w = let y : ◌≡◌ {A = ℕ} 0 1 = cc in absurd (omega arith)
+      go false q w = cc
 
   none_there : (g : ℕ) → g < made t → cell g 0 (revoked t) ≡ 0 → At (view t).revoked g none
   unfolding view
@@ -302,7 +302,7 @@ module _ {t : Tables} (f : Fit t) where
   }
     where
       approvers_number : (n : ℕ) → n ≤ 1 → role_of n ≡ Approver → n ≡ 1
-      approvers_number zero h e = let y : ◌≡◌ {A = ℕ} 0 1 = cc in absurd (omega arith)
+      approvers_number zero h e = cc
       approvers_number (suc n) h e = omega arith
 
   pub sound_view : Sound (view t)

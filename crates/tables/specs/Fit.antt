@@ -2,7 +2,6 @@
 -- a sound ledger. Assumes nothing.
 use Rattle.std.specs.Prelude.{◌≢◌, ◌≡◌, ◌+◌, ◌<◌, ◌≤◌, suc, zero, ℕ, eqb, get_or, ◌&&◌, List, [], ◌∷◌}
 use Rattle.lists.specs.Tallies.{count}
-use Rattle.machine.specs.Tests.{used}
 use Rattle.rows.specs.Apart.{Distinct}
 use Rattle.rows.specs.Zeros.{ZeroFrom, zero_key, zero_row}
 use Rattle.tables.specs.Parts.{agents, approvers, asked, cell, decided, held, holders, key_count, log, log_count, made, request_count, revoked, text_used}
