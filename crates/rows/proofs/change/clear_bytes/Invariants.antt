@@ -1,0 +1,10 @@
+-- `rows::change::clear_bytes`. The loop's invariant: the entries passed are written. Assumes nothing.
+use Rattle.std.proofs.Common.{◌≡◌, ◌-◌, length, replicate}
+use Rattle.rows.proofs.Written.{over}
+use Rattle.rows.proofs.change.clear_bytes.Given as goal
+
+abbrev pub invariant-loop-i : goal.invariant-loop-i
+invariant-loop-i l = l.t ≡ over l.fn.t l.i (replicate (length l.fn.t) 0)
+
+abbrev pub decreases-loop-i : goal.decreases-loop-i
+decreases-loop-i l = length l.fn.t - l.i
