@@ -14,7 +14,7 @@ use Rattle.history.proofs.Induction.{from_opened}
 use Rattle.history.specs.History.{Event, accepted, answer_of, any, approved_by, approves, askings, asks_by, event, fate, log_told, names, pick, rejects, revokes, status_told}
 use Rattle.history.specs.Steps.{is_request}
 use Rattle.lists.proofs.Maps.{at_map, at_unmap, map_snoc}
-use Rattle.lists.proofs.Places.{at_below, at_head, at_lt, at_nil, at_none, at_one, at_set_other, at_set_same, at_snoc_two, down, getElem?-old, length_snoc}
+use Rattle.lists.proofs.Places.{at_below, at_head, at_lt, at_nil, at_none, at_one, at_set_other, at_set_same, at_snoc_two, down, get_elem?_old, length_snoc}
 use Rattle.lists.specs.Places.{At}
 use Rattle.machine.proofs.Bools.{and_false, and_true, or_false, or_true}
 use Rattle.machine.proofs.Keep.{asked_of, asks_kept, reg_of, sound_opened, sound_run}
@@ -114,7 +114,7 @@ module _ {h : List Change} {L : Ledger} (s : Sound L) (t : Tells h L) where
   tell_add : (caller : ℕ) (key : Bytes) (account : ℕ) (role : Role) → Gives (λ d. Tells (h ++ add caller key account role ∷ []) d.ledger) (add_to L caller key account role)
   tell_add caller key account role owner fresh room space =
       tell_other (add caller key account role) _ refl refl
-      (λ n a ha. rw (getElem?-old L.revoked (none ∷ []) a.number (s.roll.known ha)) (sym (or_false _)))
+      (λ n a ha. rw (get_elem?_old L.revoked (none ∷ []) a.number (s.roll.known ha)) (sym (or_false _)))
       (λ k n. sym (or_false _)) (sym (append-nil _))
 
   -- what a revocation ends: the requests of its key that were not over yet

@@ -144,10 +144,10 @@ module _ {A : Type 0} where
   past_end (y ∷ ys) zero h = absurd (not-suc-le-zero h)
   past_end (y ∷ ys) (suc i) h = past_end ys i (le_of_suc-le-suc h)
 
-  pub getElem?-old : (l m : List A) (i : ℕ) → i < length l → get_elem? (l ++ m) i ≡ get_elem? l i
-  getElem?-old [] m i h = absurd (not-suc-le-zero h)
-  getElem?-old (x ∷ xs) m zero h = refl
-  getElem?-old (x ∷ xs) m (suc i) h = getElem?-old xs m i (le_of_suc-le-suc h)
+  pub get_elem?_old : (l m : List A) (i : ℕ) → i < length l → get_elem? (l ++ m) i ≡ get_elem? l i
+  get_elem?_old [] m i h = absurd (not-suc-le-zero h)
+  get_elem?_old (x ∷ xs) m zero h = refl
+  get_elem?_old (x ∷ xs) m (suc i) h = get_elem?_old xs m i (le_of_suc-le-suc h)
 
   -- two lists are equal when they are as long and agree at each place
   pub ext_at : (l m : List A) → length l ≡ length m → ((i : ℕ) (x y : A) → At l i x → At m i y → x ≡ y) → l ≡ m
