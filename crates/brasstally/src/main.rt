@@ -3,43 +3,33 @@
 
 mod telling;
 
-use libc::{STDIN_FILENO, STDOUT_FILENO};
+use std::io::Read;
+use std::rt::Files;
+use std::{env, fs, io};
 
-fn run_from(fd: i32) {
+fn run_from(rt: &impl Print, from: &mut impl Read) -> io::Result<()> {
     let mut input = rooms::input();
-    let n = io::read_full(fd, &mut input);
-    run_lines(&input[..n]);
+    let n = rooms::reading::read_full(from, &mut input)?;
+    run_lines(rt, &input[..n])
 }
 
-fn run_lines(input: &[u8]) {
+fn run_lines(rt: &impl Print, input: &[u8]) -> io::Result<()> {
     let mut out = rooms::lines();
     let n = telling::tell(input, &mut out);
-    let is_written = io::write_all(STDOUT_FILENO, &out[..n]);
-    if !is_written {
-        os::fail(b"standard output");
+    rt.write_all(&out[..n])
+}
+
+// A file that can't be opened is told on standard error, and ends the run as before.
+fn run_file(rt: &(impl Files + Print + Eprint), path: &str) -> io::Result<()> {
+    match fs::open(rt, path) {
+        Ok(mut file) => run_from(rt, &mut file),
+        Err(why) => eprintln!(rt; "{path}: {why}"),
     }
 }
 
-fn run_file(path: &[u8]) {
-    let fd = os::open_read(path);
-    if fd < 0 {
-        os::fail(path);
-        return;
+fn main(rt: HostRuntime) -> io::Result<()> {
+    match env::args(&rt)?.nth(1) {
+        Some(path) => run_file(&rt, path.as_str()),
+        None => run_from(&rt, &mut rt.reader()),
     }
-    run_from(fd);
-    libc::close(fd);
-}
-
-fn main() {
-    if os::arg_count() < 2 {
-        run_from(STDIN_FILENO);
-        return;
-    }
-    let mut path = io::buffer();
-    let n = os::arg(1, &mut path);
-    if os::errno() != 0 {
-        os::fail(b"the file's name");
-        return;
-    }
-    run_file(&path[..n]);
 }

@@ -1,5 +1,7 @@
-// Arrays of zeros for programs to lend. A promise gives the length alone, which lending a slice needs; so no proof spells the zeros out.
+// What programs read into: arrays of zeros for them to lend, and the reading. A promise gives the length alone, which lending a slice needs; so no proof spells the zeros out.
 #![tactic(auto)]
+
+pub mod reading;
 
 ghost use Rattle.std.specs.Prelude.{◌≡◌, length};
 

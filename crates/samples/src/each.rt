@@ -1,7 +1,9 @@
 // The files of the list, one after the other: each stands as its length in four bytes, the highest first, and its bytes. For `main`.
 ghost use Rattle.std.specs.Prelude.{◌≤◌};
 
-use libc::STDOUT_FILENO;
+use rooms::reading::read_full;
+use std::io;
+use std::io::Read;
 
 // A ledger's tables; their lengths are in the types, so that lending them asks no proof.
 type Book = [[u64; 6]; 1089];
@@ -23,42 +25,45 @@ fn number(head: &[u8; 4]) -> usize {
 }
 
 fn tell(
+    rt: &impl Print,
     book: &mut Book,
     keys: &mut Keys,
     texts: &mut Texts,
     input: &[u8],
     lines: &mut [u8],
-) -> bool {
+) -> io::Result<()> {
     let ran = replay::run(book, keys, texts, input, lines);
     let n = ran.wrote;
-    io::write_all(STDOUT_FILENO, &lines[..n])
+    rt.write_all(&lines[..n])
 }
 
 // The next file of the list, and whether to go on.
 fn next(
-    fd: i32,
+    rt: &impl Print,
+    list: &mut impl Read,
     book: &mut Book,
     keys: &mut Keys,
     texts: &mut Texts,
     room: &mut [u8],
     lines: &mut [u8],
-) -> bool {
+) -> io::Result<bool> {
     let mut head = [0u8; 4];
-    if io::read_full(fd, &mut head) < 4 {
-        return false;
+    if read_full(list, &mut head)? < 4 {
+        return Ok(false);
     }
     let length = number(&head);
     if length > room.len() {
-        return false;
+        return Ok(false);
     }
-    if io::read_full(fd, &mut room[..length]) < length {
-        return false;
+    if read_full(list, &mut room[..length])? < length {
+        return Ok(false);
     }
-    tell(book, keys, texts, &room[..length], lines)
+    tell(rt, book, keys, texts, &room[..length], lines)?;
+    Ok(true)
 }
 
 // The tables are not cleared between files: what stood in them must not show. A proved loop has to end, so its turns are counted.
-pub fn replay_all(fd: i32) {
+pub fn replay_all(rt: &impl Print, list: &mut impl Read) -> io::Result<()> {
     let mut book = [[0u64; 6]; 1089];
     let mut keys = [[0u8; 32]; 576];
     let mut texts = [0u8; 32768];
@@ -66,8 +71,10 @@ pub fn replay_all(fd: i32) {
     let room: &mut [u8] = &mut input_space;
     let mut output_space = [0u8; 65536];
     let lines: &mut [u8] = &mut output_space;
-    let mut turns = u64::MAX;
-    while turns > 0 && next(fd, &mut book, &mut keys, &mut texts, room, lines) {
-        turns -= 1;
+    for _ in 0..u64::MAX {
+        if !next(rt, list, &mut book, &mut keys, &mut texts, room, lines)? {
+            break;
+        }
     }
+    Ok(())
 }

@@ -3,13 +3,9 @@
 
 mod each;
 
-fn main() {
-    let list = b"list";
-    let fd = os::open_read(list);
-    if fd < 0 {
-        os::fail(list);
-        return;
-    }
-    each::replay_all(fd);
-    libc::close(fd);
+use std::{fs, io};
+
+fn main(rt: HostRuntime) -> io::Result<()> {
+    let mut list = fs::open(&rt, "list")?;
+    each::replay_all(&rt, &mut list)
 }

@@ -1,0 +1,9 @@
+-- `read_full`: the bytes that came lie within the row.
+use Rattle.std.proofs.Common.{length, ◌-◌, ◌≤◌}
+use Rattle.rooms.proofs.reading.read_full.Given as goal
+
+abbrev pub invariant-loop-done : goal.invariant-loop-done
+invariant-loop-done g l = l.done ≤ length l.row
+
+abbrev pub decreases-loop-done : goal.decreases-loop-done
+decreases-loop-done g l = length l.initial.row - l.done
