@@ -32,8 +32,8 @@ fn page_size(count: u64, from: u64, limit: u64) -> u64
 
 // Slot j: slot, request, agent's and approver's registrations, time of the request, time of the approval.
 fn slot_row(book: &[[u64; 6]], keys: &[[u8; 32]], texts: &[u8], j: usize) -> [u64; 8]
-    requires fact_1 { Standing (tables book.now keys.now texts.now) }
-    requires fact_2 { j < log_count (tables book.now keys.now texts.now) }
+    requires standing { Standing (tables book.now keys.now texts.now) }
+    requires slot_bound { j < log_count (tables book.now keys.now texts.now) }
     ensures { SlotRow (tables book.now keys.now texts.now) j result }
 {
     let n = book[j + 833][0];
