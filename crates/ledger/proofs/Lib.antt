@@ -1,5 +1,4 @@
 -- Laws that the proofs of the public functions cite.
-pub mod Lent
 pub mod Opened
 pub mod Pages
 pub mod Texts

@@ -31,7 +31,7 @@ same e = e
 
 module _ {t : Tables} (from limit : ℕ) (page : List PageEntry) where
   -- the row with the first i entries in front, where the tables hold a ledger
-  abbrev filled : Standing t ⊎ (Standing t → ⊥) → ℕ → List PageEntry
+  abbrev pub filled : Standing t ⊎ (Standing t → ⊥) → ℕ → List PageEntry
   filled (inl w) i = over page i (map same (entries w.ledger from limit))
   filled (inr n) i = page
 
@@ -88,27 +88,33 @@ module _ {t : Tables} (from limit : ℕ) (page : List PageEntry) where
       | inr n ↦ omega (arith, none_told n)
     ]
 
+    pub fill_few : entry_count r ≤ 100
+    fill_few = elim d.known [
+      | inl w ↦ omega (arith, bounds r w (sound_told w))
+      | inr n ↦ omega (arith, none_told n)
+    ]
+
     pub fill_asks : (i : ℕ) → i < entry_count r → Standing t × (from + i < log_count t)
     fill_asks i h = elim d.known [
       | inl w ↦ (w, omega (arith, bounds r w (sound_told w)))
       | inr n ↦ absurd (omega (arith, none_told n))
     ]
 
-    none_by : (k : Standing t ⊎ (Standing t → ⊥)) → page ≡ filled k 0
+    pub none_by : (k : Standing t ⊎ (Standing t → ⊥)) → page ≡ filled k 0
     none_by (inl w) = refl
     none_by (inr n) = refl
 
-    long_by : (k : Standing t ⊎ (Standing t → ⊥)) (i : ℕ) → i ≤ entry_count r → length (filled k i) ≡ length page
+    pub long_by : (k : Standing t ⊎ (Standing t → ⊥)) (i : ℕ) → i ≤ entry_count r → length (filled k i) ≡ length page
     long_by (inl w) i h = long r w (sound_told w) i h
     long_by (inr n) i h = refl
 
-    more_by : (k : Standing t ⊎ (Standing t → ⊥)) (i : ℕ) (e : PageEntry) → i < entry_count r → SlotEntry t (from + i) e → set (filled k i) i e ≡ filled k (suc i)
+    pub more_by : (k : Standing t ⊎ (Standing t → ⊥)) (i : ℕ) (e : PageEntry) → i < entry_count r → SlotEntry t (from + i) e → set (filled k i) i e ≡ filled k (suc i)
     more_by (inl w) i e h s =
         page_more w.stands from limit same empty_entry page (filled (inl w) i) i (size_of_page (log_count t) from limit) refl refl e s (omega (arith, bounds r w (sound_told w))) (omega (arith, fill_room))
         ∙ ap (filled (inl w)) (add-one i)
     more_by (inr n) i e h s = absurd (omega (arith, none_told n))
 
-    whole_by : (k : Standing t ⊎ (Standing t → ⊥)) → Does (entries_call page from limit) t t (record { answer = r; page = filled k (entry_count r) })
+    pub whole_by : (k : Standing t ⊎ (Standing t → ⊥)) → Does (entries_call page from limit) t t (record { answer = r; page = filled k (entry_count r) })
     unfolding entries_call told_call
     whole_by (inl w) = does_part _ w (part_read _ _ (λ L st. subst (λ (L : Ledger). record { answer = r; page = filled (inl w) (entry_count r) } ≡ entered page (outcome (page_into L from limit (length page)))) (one_ledger w.stands st) (whole r w (sound_told w))))
     whole_by (inr n) = rw (d.damaged n).0 (does_damaged _ n)

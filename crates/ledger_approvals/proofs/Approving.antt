@@ -24,7 +24,7 @@ use Rattle.machine.proofs.Keep.{sound_approve}
 use Rattle.machine.proofs.Look.{same_false, same_refl}
 use Rattle.machine.proofs.Pages.{log_has_room}
 use Rattle.machine.specs.Machine.{Candidate, Did, decided, did_approve, verdict_of}
-use Rattle.machine.specs.Plan.{Plan, ◌>>=◌, ◌>>◌, done, refuse◌if◌, refused}
+use Rattle.machine.specs.Plan.{Plan, ◌>>◌, done, refuse◌if◌, refused}
 use Rattle.machine.specs.Tests.{Place, asks, same, used}
 use Rattle.machine.specs.Told.{Texted}
 use Rattle.machine.specs.Types.{Approved, Bytes, Decision, Ledger, Request}
@@ -34,12 +34,10 @@ use Rattle.records.specs.declared.Caller.{Caller}
 use Rattle.records.specs.declared.Role.TheVariants.{Approver}
 use Rattle.records.specs.declared.refusal.Refusal.{Refusal}
 use Rattle.records.specs.declared.refusal.Refusal.TheVariants.{ActionMismatch, SelfApproval}
-use Rattle.rows.specs.Regions.{Holds}
 use Rattle.tables.proofs.Indexed.{agent_index, asked_index, head_row_lem, text_index}
-use Rattle.tables.proofs.Laid.{book_lengths}
 use Rattle.tables.proofs.Stored.{stored}
 use Rattle.tables.specs.Parts.{cell, log_count}
-use Rattle.tables.specs.Tables.{Stands, Tables, book_of, decided_row, head_row, log_row, tables}
+use Rattle.tables.specs.Tables.{Stands, Tables, decided_row, head_row, log_row, tables}
 use Rattle.answers.specs.declared.Answer.TheVariants as Answer
 use Rattle.ledger_callers.specs.declared.Auth.TheVariants as Auth
 use Rattle.ledger_requests.specs.declared.decidable.Decidable.TheVariants as Decidable

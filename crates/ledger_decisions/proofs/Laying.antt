@@ -11,9 +11,9 @@ use Rattle.lists.proofs.Getting.{map_set}
 use Rattle.lists.proofs.Places.{at_lt, length_snoc}
 use Rattle.lists.specs.Places.{At}
 use Rattle.machine.proofs.Keep.{asks_kept, regs_kept}
-use Rattle.machine.specs.Machine.{Candidate, changed, decided}
+use Rattle.machine.specs.Machine.{changed, decided}
 use Rattle.machine.specs.Rooms.{log_room, request_room, text_room}
-use Rattle.machine.specs.Tests.{Place, asks, regs, used}
+use Rattle.machine.specs.Tests.{asks, regs, used}
 use Rattle.machine.specs.Types.{Asked, Decision, Holder, Ledger, Registration, Request}
 use Rattle.rows.proofs.Padded.{set_map, snoc_map}
 use Rattle.rows.proofs.Regions.{region_store}

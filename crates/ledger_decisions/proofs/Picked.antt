@@ -4,7 +4,7 @@ use Prim.Native.Nat.{◌*◌, ◌+◌, ◌<◌, ◌≤◌, ℕ}
 use mir.Syntax.{w64}
 use mir.Val.{Fits}
 use lib.Dec.{T, leb, leb→le}
-use lib.ListN.{length, length-map}
+use lib.ListN.{length}
 use mathlib.Core.Option.{some}
 use native.Mathlib.Omega.{arith}
 use Rattle.answers.proofs.Doing.{part_did, part_refused}

@@ -1,0 +1,8 @@
+-- `ledger::change::reject` meets its contract: the check says no, and its call answers so. Assumes nothing.
+use Rattle.answers.proofs.Doing.{does_damaged}
+use Rattle.answers.specs.Calls.{reject_call}
+use Rattle.ledger.proofs.change.reject.Goals as goal
+
+pub returns-then-not-is_sound : goal.returns-then-not-is_sound
+unfolding reject_call
+returns-then-not-is_sound c = rw c.request_refused.ensures (does_damaged _ (c.is_sound.ensures.no c.if-not-is_sound.true))

@@ -1,0 +1,8 @@
+-- `ledger::read::proof_revocations` meets its contract: the check says no, and its call answers so. Assumes nothing.
+use Rattle.answers.proofs.Doing.{does_damaged}
+use Rattle.answers.specs.Calls.{revocations_call}
+use Rattle.ledger.proofs.read.proof_revocations.Goals as goal
+
+pub returns-then-not-is_sound : goal.returns-then-not-is_sound
+unfolding revocations_call
+returns-then-not-is_sound c = does_damaged _ (c.is_sound.ensures.no c.if-not-is_sound.true)
