@@ -1,7 +1,7 @@
 -- `commands::kind::read_page` meets its contract: the limit is the table's default where no byte is left.
 use Rattle.std.proofs.Common.{refl, arith}
 use Rattle.machine.specs.Rooms.{default_page}
-use Rattle.fields.specs.Fields.{telling-page, from, limit, number_field}
+use Rattle.fields.specs.Fields.{telling_page, from, limit, number_field}
 use Rattle.fields.specs.Parts.{Gives, Halts}
 use Rattle.field_values.proofs.Sequences.{by_default, given, given_wrong}
 use Rattle.commands.specs.Commands.{fields_of}
@@ -12,7 +12,7 @@ pub returns-in-Stopped : goal.returns-in-Stopped
 unfolding fields_of
 returns-in-Stopped c =
     let h : Halts (number_field from) c.args.value.now c.args.off 0 c.in-Stopped.why = c.in-Stopped.ensures in
-    halted (fields_of telling-page) c.args.value.now c.args.off (rw h.stops) c.stopped.ensures
+    halted (fields_of telling_page) c.args.value.now c.args.off (rw h.stops) c.stopped.ensures
 
 pub returns-then-at_limit-value : goal.returns-then-at_limit-value
 unfolding fields_of
@@ -27,7 +27,7 @@ returns-in-Stopped-number_field c =
     let f : Gives (number_field from) c.args.value.now c.args.off 0 c.in-Is.n.number c.in-Is.n.next = c.in-Is.ensures in
     let w : Halts (number_field limit) c.args.value.now c.args.off c.in-Is.n.next c.in-Stopped-number_field.why = c.in-Stopped-number_field.ensures in
     let h = given_wrong (number_field limit) default_page (omega (arith, f.inside)) w in
-    halted (fields_of telling-page) c.args.value.now c.args.off (rw (f.reads, h.stops)) c.stopped-in-Stopped-number_field.ensures
+    halted (fields_of telling_page) c.args.value.now c.args.off (rw (f.reads, h.stops)) c.stopped-in-Stopped-number_field.ensures
 
 pub returns : goal.returns
 unfolding fields_of

@@ -1,6 +1,6 @@
 -- `commands::kind::read_status` meets its contract: what is read on the way is the table's, in its order.
 use Rattle.std.proofs.Common.{refl}
-use Rattle.fields.specs.Fields.{telling-status, request, number_field}
+use Rattle.fields.specs.Fields.{telling_status, request, number_field}
 use Rattle.fields.specs.Parts.{Gives, Halts}
 use Rattle.commands.specs.Commands.{fields_of}
 use Rattle.commands.proofs.Contents.{halted}
@@ -10,7 +10,7 @@ pub returns-in-Stopped : goal.returns-in-Stopped
 unfolding fields_of
 returns-in-Stopped c =
     let h : Halts (number_field request) c.args.value.now c.args.off 0 c.in-Stopped.why = c.in-Stopped.ensures in
-    halted (fields_of telling-status) c.args.value.now c.args.off (rw h.stops) c.stopped.ensures
+    halted (fields_of telling_status) c.args.value.now c.args.off (rw h.stops) c.stopped.ensures
 
 pub returns : goal.returns
 unfolding fields_of
