@@ -34,6 +34,6 @@ unfolding fields_of
 returns c =
     let f : Gives (number_field from) c.args.value.now c.args.off 0 c.in-Is.n.number c.in-Is.n.next = c.in-Is.ensures in
     let m : Gives (number_field limit) c.args.value.now c.args.off c.in-Is.n.next c.in-Is-number_field.m.number c.in-Is-number_field.m.next
-            = c.in-Is-number_field.ensures in
+    = c.in-Is-number_field.ensures in
     let l = given (number_field limit) default_page (omega (arith, f.inside)) m in
     rw c.page-2.ensures (record { gives = record { reads = rw (f.reads, l.reads); inside = l.inside }; beside = refl; placed = tt })

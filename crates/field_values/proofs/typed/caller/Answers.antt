@@ -23,7 +23,7 @@ unfolding caller
 returns-in-Stopped-read c =
     let p : Gives (number_field predecessor) c.args.value.now c.args.off 0 c.in-Is.p.number c.in-Is.p.next = c.in-Is.ensures in
     let s : Gives (number_field signer) c.args.value.now c.args.off c.in-Is.p.next c.in-Is-number_field.s.number c.in-Is-number_field.s.next
-            = c.in-Is-number_field.ensures in
+    = c.in-Is-number_field.ensures in
     let h = rw c.in-Stopped-read.is at c.key_field-keyed.ensures in
     rw (c.nobody-in-Stopped-read.ensures.0, c.nobody-in-Stopped-read.ensures.1) (record { stops = rw (p.reads, s.reads, h.0.stops) }, refl)
 
@@ -32,7 +32,7 @@ unfolding caller
 returns c =
     let p : Gives (number_field predecessor) c.args.value.now c.args.off 0 c.in-Is.p.number c.in-Is.p.next = c.in-Is.ensures in
     let s : Gives (number_field signer) c.args.value.now c.args.off c.in-Is.p.next c.in-Is-number_field.s.number c.in-Is-number_field.s.next
-            = c.in-Is-number_field.ensures in
+    = c.in-Is-number_field.ensures in
     let k : Gives (field key) c.args.value.now c.args.off c.in-Is-number_field.s.next c.key_field-keyed.result.key c.in-At.next
-            = rw c.in-At.is at c.key_field-keyed.ensures in
+    = rw c.in-At.is at c.key_field-keyed.ensures in
     record { reads = rw (p.reads, s.reads, k.reads); inside = k.inside }
