@@ -1,5 +1,5 @@
 -- Which tags are known, a run of them at a time, by computation. Assumes nothing.
-use Rattle.std.proofs.Common.{◌≡◌, ℕ, ◌+◌, ◌<◌, ◌≤◌, true, false, refl, arith}
+use Rattle.std.proofs.Common.{◌≡◌, ℕ, ◌<◌, ◌≤◌, true, false, refl, arith}
 use Rattle.fields.specs.Fields.{known}
 use Rattle.fields.proofs.Tags.{at}
 
