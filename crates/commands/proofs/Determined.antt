@@ -10,7 +10,6 @@ use Rattle.field_values.specs.Held.{no_key}
 use Rattle.commands.specs.declared.command.Command.{Command as ReadCommand}
 use Rattle.commands.specs.declared.command.Command.TheVariants as Is
 use Rattle.commands.specs.declared.command.Step.{Step}
-use Rattle.commands.specs.declared.command.Step.TheVariants as Step
 use Rattle.commands.specs.declared.command.Taken.{Taken}
 use Rattle.commands.specs.Commands.{Command, open_by, change, status_of, page_from, Read, command, end, stopped_by, command_read}
 use Rattle.commands.specs.Answers.{meant, Beside, Placed, Told, Reads, lent}

@@ -4,16 +4,16 @@ use mathlib.Core.Bool.{Bool, true, false, not, cond}
 use mathlib.Core.Option.{Option, none, some}
 use Prim.Native.Nat.{ℕ, ◌+◌}
 use lib.ListN.{length, drop}
-use lib.Dec.{eqb, ltb}
+use lib.Dec.{ltb}
 use borrow.Author.Tests.{eqb-true, not-false}
 use native.Mathlib.Omega.{arith}
 use Rattle.machine.specs.Types.{Bytes}
 use Rattle.fields.specs.declared.fault.Fault.{Fault}
 use Rattle.fields.specs.declared.fault.Fault.TheVariants.{CutField, UnknownField, FieldOrder}
-use Rattle.fields.specs.Reader.{Got, got, stopped, first, onward, done, unless}
+use Rattle.fields.specs.Reader.{Got, got, stopped, first, onward, done}
 use Rattle.fields.specs.Fields as fields
 use Rattle.fields.specs.Fields.{opening, kind_of, known, tag_of, length_of, value_of, none_left, second_to_fifth, finish, number_field}
-use Rattle.commands.specs.Commands.{Command, open_by, Read, command, due, read_by, contents, contents_of, fields_of, read_outer, command_read}
+use Rattle.commands.specs.Commands.{Command, open_by, command, due, read_by, contents, contents_of, fields_of, read_outer, command_read}
 use Rattle.commands.proofs.Progress.{passed, not_at_end, from_rules, nothing_left}
 
 -- ---- what an open's fields are read to

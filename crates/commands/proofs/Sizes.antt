@@ -17,7 +17,7 @@ use Rattle.fields.specs.declared.fault.Stop.{Stop}
 use Rattle.fields.specs.declared.field.Form.TheVariants.{Exactly}
 use Rattle.fields.specs.Reader.{Got, got, stopped, Reader, Rule, first, onward, unless}
 use Rattle.fields.specs.Fields as fields
-use Rattle.fields.specs.Fields.{Field, ◌holds◌, Kind, opening, adding, revoking, requesting, approving, rejecting, telling-status, telling-page}
+use Rattle.fields.specs.Fields.{Field, ◌holds◌, Kind, opening, adding, revoking, requesting, approving, rejecting, telling_status, telling_page}
 use Rattle.fields.specs.Fields.{kind_of, tag_of, length_of, value_of, none_left, rules, field, number_field}
 use Rattle.field_values.specs.Groups.{caller}
 use Rattle.commands.specs.Commands.{Command, Read, command, end, stopped_by, read_by, contents, contents_of, fields_of, read_outer, command_read}
@@ -78,8 +78,8 @@ module _ (rest : Bytes) (place : ℕ) where
   fields_long requesting = and_more 11 rest (caller rest place) _ caller_long
   fields_long approving = and_more 11 rest (caller rest place) _ caller_long
   fields_long rejecting = and_more 11 rest (caller rest place) _ caller_long
-  fields_long telling-status = and_more 11 rest (number_field fields.request rest place) _ (number_long 0x17)
-  fields_long telling-page = and_more 11 rest (number_field fields.from rest place) _ (number_long 0x19)
+  fields_long telling_status = and_more 11 rest (number_field fields.request rest place) _ (number_long 0x17)
+  fields_long telling_page = and_more 11 rest (number_field fields.from rest place) _ (number_long 0x19)
 
   contents_long : (o : Option Kind) → Needs 11 rest (contents_of o rest place)
   unfolding contents

@@ -15,7 +15,6 @@ use Rattle.fields.proofs.Parts.{length_part}
 use Rattle.commands.specs.declared.command.Command.{Command as ReadCommand}
 use Rattle.commands.specs.declared.command.Command.TheVariants as Is
 use Rattle.commands.specs.declared.command.Step.{Step}
-use Rattle.commands.specs.declared.command.Step.TheVariants as Step
 use Rattle.commands.specs.declared.command.Taken.{Taken}
 use Rattle.commands.specs.Commands.{Command, command, end, stopped_by, read_by, contents_of, command_read}
 use Rattle.commands.specs.Answers.{meant, Placed, Told, Valued, Reads, lent, stopped_with, ended}

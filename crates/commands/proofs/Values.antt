@@ -15,7 +15,7 @@ use Rattle.field_values.specs.Held.{lent_from}
 use Rattle.commands.specs.declared.command.Command.{Command as ReadCommand}
 use Rattle.commands.specs.declared.command.Step.TheVariants as Step
 use Rattle.commands.specs.declared.command.Taken.{Taken}
-use Rattle.commands.specs.Commands.{Command, fields_of, contents, contents_of, read_by, command}
+use Rattle.commands.specs.Commands.{fields_of, contents, contents_of, read_by}
 use Rattle.commands.specs.Answers.{Content, Contents, Whole, Kinded, Valued, Tells, meant, stopped_with}
 
 -- a kind's tag that is none of the other seven is the eighth's

@@ -19,7 +19,7 @@ use Rattle.fields.specs.Numbers.{number, bytes_of}
 use Rattle.fields.specs.Reader.{got}
 use Rattle.fields.specs.Fields.{Field, known, tag_of, length_of, value_of, wrong_length, bad_role, field, finish, ◌holds◌, signer, key, account, text, role, time, request, limit}
 use Rattle.fields.specs.Fields.{number_field, time_field, role_field}
-use Rattle.fields.specs.Fields.{Kind, opening, adding, revoking, requesting, approving, rejecting, telling-status, telling-page, kind_tag, kind_of}
+use Rattle.fields.specs.Fields.{Kind, opening, adding, revoking, requesting, approving, rejecting, telling_status, telling_page, kind_tag, kind_of}
 use Rattle.field_values.specs.Groups.{caller, message}
 use Rattle.fields.proofs.Numbers.{written_read}
 use Rattle.fields.proofs.Rules as rule
@@ -129,8 +129,8 @@ known_kind revoking = (refl, refl)
 known_kind requesting = (refl, refl)
 known_kind approving = (refl, refl)
 known_kind rejecting = (refl, refl)
-known_kind telling-status = (refl, refl)
-known_kind telling-page = (refl, refl)
+known_kind telling_status = (refl, refl)
+known_kind telling_page = (refl, refl)
 
 outer_back : (is-first : Bool) (rest : Bytes) (place : ℕ) → known (tag_of rest) ≡ true → due is-first (tag_of rest) ≡ true → 3 + length_of rest ≤ length rest
     → read_outer is-first rest place ≡ read_by (place + 3 + length_of rest) (contents_of (kind_of (tag_of rest)) (value_of rest) (place + 3))

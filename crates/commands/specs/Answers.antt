@@ -6,7 +6,6 @@ use Rattle.fields.specs.declared.fault.Stop.{Stop}
 use Rattle.commands.specs.declared.command.Command.TheVariants as Is
 use Rattle.commands.specs.declared.command.Command.{Command as ReadCommand}
 use Rattle.commands.specs.declared.command.Step.{Step}
-use Rattle.commands.specs.declared.command.Step.TheVariants as Step
 use Rattle.commands.specs.declared.command.Taken.{Taken}
 use Rattle.fields.specs.Reader.{Reader, stopped}
 use Rattle.fields.specs.Fields.{Kind, kind_of}

@@ -10,7 +10,7 @@ use Rattle.fields.specs.declared.fault.Fault.TheVariants.{MissingField, UnknownF
 use Rattle.fields.specs.Reader.{Got, got, stopped, Reader, ◌>>=◌, ◌>>◌, done, if_any_byte_is_left, first, unless}
 use Rattle.fields.specs.Fields as fields
 use Rattle.field_values.specs.Groups.{caller, message}
-use Rattle.fields.specs.Fields.{Kind, opening, adding, revoking, requesting, approving, rejecting, telling-status, telling-page, kind_tag, kind_of}
+use Rattle.fields.specs.Fields.{Kind, opening, adding, revoking, requesting, approving, rejecting, telling_status, telling_page, kind_tag, kind_of}
 use Rattle.fields.specs.Fields.{length_of, value_of, tag_of, none_left, second_to_fifth, field, finish, number_field, time_field, role_field}
 
 -- what a command asks for: an open by an account, one of the machine's changes, the status of a request, or a page of the log
@@ -50,10 +50,10 @@ fields_of rejecting = do
   n ← number_field fields.request
   now ← time_field
   done (change (reject c n now))
-fields_of telling-status = do
+fields_of telling_status = do
   n ← number_field fields.request
   done (status_of n)
-fields_of telling-page = do
+fields_of telling_page = do
   f ← number_field fields.from
   l ← if_any_byte_is_left (number_field fields.limit) default_page
   done (page_from f l)

@@ -7,7 +7,7 @@ use Rattle.records.specs.Roles.{role_number}
 use Rattle.machine.specs.Types.{Bytes, add, revoke, request, approve, reject}
 use Rattle.fields.specs.Numbers.{bytes_of}
 use Rattle.fields.specs.Fields as fields
-use Rattle.fields.specs.Fields.{Kind, opening, adding, revoking, requesting, approving, rejecting, telling-status, telling-page, kind_tag, Field}
+use Rattle.fields.specs.Fields.{Kind, opening, adding, revoking, requesting, approving, rejecting, telling_status, telling_page, kind_tag, Field}
 use Rattle.commands.specs.Commands.{Command, open_by, change, status_of, page_from}
 
 -- one-byte tag, two-byte length, value
@@ -45,8 +45,8 @@ kind_written (change (revoke c k now)) = revoking
 kind_written (change (request c t now)) = requesting
 kind_written (change (approve c n t now)) = approving
 kind_written (change (reject c n now)) = rejecting
-kind_written (status_of n) = telling-status
-kind_written (page_from f l) = telling-page
+kind_written (status_of n) = telling_status
+kind_written (page_from f l) = telling_page
 
 -- a page's limit is always written
 abbrev pub fields_written : Command → List Bytes

@@ -1,6 +1,6 @@
 // A command's value, by its kind: the fields due in document 01's order, a fault handed on at once. Each is lent the value and its offset in the input.
 ghost use Rattle.std.specs.Prelude.{◌≡◌};
-ghost use Rattle.fields.specs.Fields.{opening, adding, revoking, requesting, approving, rejecting, telling-status, telling-page};
+ghost use Rattle.fields.specs.Fields.{opening, adding, revoking, requesting, approving, rejecting, telling_status, telling_page};
 ghost use Rattle.commands.specs.Commands.{fields_of};
 ghost use Rattle.fields.specs.Parts.{StartsAt};
 ghost use Rattle.commands.specs.Answers.{Contents, stopped_with, paged};
@@ -216,7 +216,7 @@ pub fn read_reject(value: &[u8], off: usize) -> Taken
 
 pub fn read_status(value: &[u8], off: usize) -> Taken
     requires { StartsAt value.now off }
-    ensures { Contents (fields_of telling-status) value.now off result }
+    ensures { Contents (fields_of telling_status) value.now off result }
 {
     let request = match number_field(value, off, 0, 0x17) {
         Number::Is(n) => n,
@@ -232,7 +232,7 @@ pub fn read_status(value: &[u8], off: usize) -> Taken
 // A page whose limit is not given has 50 entries.
 pub fn read_page(value: &[u8], off: usize) -> Taken
     requires { StartsAt value.now off }
-    ensures { Contents (fields_of telling-page) value.now off result }
+    ensures { Contents (fields_of telling_page) value.now off result }
 {
     let from = match number_field(value, off, 0, 0x19) {
         Number::Is(n) => n,

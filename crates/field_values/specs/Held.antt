@@ -5,17 +5,12 @@ use Rattle.machine.specs.Told.{account}
 use Rattle.ids.specs.declared.Account.{Account}
 use Rattle.records.specs.declared.Caller.{Caller}
 use Rattle.field_values.specs.declared.typed.Number.{Number}
-use Rattle.field_values.specs.declared.typed.Number.TheVariants as Number
 use Rattle.field_values.specs.declared.typed.Timed.{Timed}
 use Rattle.field_values.specs.declared.typed.Time.{Time}
-use Rattle.field_values.specs.declared.typed.Time.TheVariants as Time
 use Rattle.field_values.specs.declared.typed.RoleHeld.{RoleHeld}
-use Rattle.field_values.specs.declared.typed.RoleHeld.TheVariants as RoleHeld
 use Rattle.field_values.specs.declared.typed.Next.{Next}
-use Rattle.field_values.specs.declared.typed.Next.TheVariants as Next
 use Rattle.field_values.specs.declared.typed.Noted.{Noted}
 use Rattle.field_values.specs.declared.typed.Note.{Note}
-use Rattle.field_values.specs.declared.typed.Note.TheVariants as Note
 use Rattle.fields.specs.Parts.{Gives, Halts}
 use Rattle.fields.specs.Fields.{Field, key, field, number_field, time_field, role_field}
 use Rattle.field_values.specs.Groups.{caller, message}

@@ -4,3 +4,4 @@ pub mod Parts
 pub mod Rules
 pub mod Fields
 pub mod Tags
+pub mod Known

@@ -14,7 +14,7 @@ use Rattle.fields.specs.Reader.{got, Reader, ◌>>=◌, done, Rule, ◌if◌, fi
 
 -- ---- the table's kinds
 pub data Kind : Type 0 where
-  opening adding revoking requesting approving rejecting telling-status telling-page : Kind
+  opening adding revoking requesting approving rejecting telling_status telling_page : Kind
 
 abbrev pub kind_tag : Kind → ℕ
 kind_tag opening = 0x08
@@ -23,11 +23,11 @@ kind_tag revoking = 0x02
 kind_tag requesting = 0x03
 kind_tag approving = 0x04
 kind_tag rejecting = 0x05
-kind_tag telling-status = 0x06
-kind_tag telling-page = 0x07
+kind_tag telling_status = 0x06
+kind_tag telling_page = 0x07
 
 abbrev pub kinds : List Kind
-kinds = opening ∷ adding ∷ revoking ∷ requesting ∷ approving ∷ rejecting ∷ telling-status ∷ telling-page ∷ []
+kinds = opening ∷ adding ∷ revoking ∷ requesting ∷ approving ∷ rejecting ∷ telling_status ∷ telling_page ∷ []
 
 abbrev pub with_kind_tag : ℕ → List Kind → Option Kind
 with_kind_tag t [] = none

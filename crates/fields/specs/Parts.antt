@@ -7,11 +7,8 @@ use Rattle.fields.specs.declared.fault.Fault.TheVariants.{CutField}
 use Rattle.fields.specs.declared.fault.Stop.{Stop}
 use Rattle.fields.specs.declared.field.Span.{Span}
 use Rattle.fields.specs.declared.field.Part.{Part}
-use Rattle.fields.specs.declared.field.Part.TheVariants as Part
 use Rattle.fields.specs.declared.field.Tag.{Tag}
-use Rattle.fields.specs.declared.field.Tag.TheVariants as Tag
 use Rattle.fields.specs.declared.field.Ending.{Ending}
-use Rattle.fields.specs.declared.field.Ending.TheVariants as Ending
 use Rattle.fields.specs.Reader.{got, stopped, Reader, Rule, first}
 use Rattle.fields.specs.Fields.{Field, tag_of, length_of, second_and_third, wrong_length, field, finish}
 

@@ -41,6 +41,7 @@ pub enum Ending {
 }
 
 // Whether a tag is a kind's or a field's.
+#[tactic(auto, using(crate::proofs::Known::tags_known))]
 fn is_known(tag: u8) -> bool
     ensures { result ≡ known tag }
 {
