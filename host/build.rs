@@ -6,7 +6,7 @@ fn main() {
         return;
     }
     let here = std::env::var("CARGO_MANIFEST_DIR").expect("cargo names the package's directory");
-    let archives = format!("{here}/../target/staticlib");
+    let archives = format!("{here}/../crates/capi/out");
     println!("cargo:rerun-if-changed={archives}/libcapi.a");
     println!("cargo:rustc-link-search=native={archives}");
 }

@@ -7,7 +7,7 @@ set -u
 from=$PWD
 here=$(cd "$(dirname "$0")" && pwd) || exit 1
 root=$(dirname "$here")
-archives=$root/target/staticlib
+archives=$root/crates/capi/out
 packages="rustc libstd-rust-dev:amd64 gcc-x86-64-linux-gnu libc6-dev-amd64-cross qemu-user"
 [ $# -gt 0 ] || set -- compare --files 20000 --seed 1
 
@@ -68,7 +68,7 @@ compare() {
 
 machine=$(uname -m) port='' cc=gcc run=''
 mkdir -p "$here/target" && cd "$here" || exit 1
-grep -q '^capi:' "$root/crates.txt" 2>/dev/null && port=yes
+grep -q "^capi[ :]" "$root/crates.txt" 2>/dev/null && port=yes
 [ "$1" = tests ] && port=''
 case $machine$port in
     x86_64*) need rustc rustc; need cargo cargo; need gcc gcc libc6-dev ;;
@@ -82,7 +82,7 @@ if [ "$1" = tests ]; then
     exec target/host-tests
 fi
 if [ -n "$port" ]; then
-    (cd "$root" && rt staticlib capi) >target/staticlib.log 2>&1 || fail "the archive of crate capi can't be built, see host/target/staticlib.log"
+    (cd "$root/crates/capi" && rt lib) >target/staticlib.log 2>&1 || fail "the archive of crate capi can't be built, see host/target/staticlib.log"
     $cc -std=c99 -pedantic -Wall -Wextra -Werror -Iinclude c/smoke.c "$archives/libcapi.a" -o target/smoke || fail "the C program can't be built"
     $run target/smoke || fail "the C program failed"
 fi
