@@ -20,7 +20,7 @@ use Rattle.ledger_requests.specs.Candidates.{MayDecide}
 use Rattle.ledger_requests.specs.Recorded.{request_told}
 use Rattle.machine.proofs.Keep.{sound_reject}
 use Rattle.machine.specs.Machine.{Candidate, Did, did_reject, verdict_of}
-use Rattle.machine.specs.Plan.{Plan, ◌>>=◌, ◌>>◌, done, refuse◌if◌, refused}
+use Rattle.machine.specs.Plan.{Plan, ◌>>◌, done, refuse◌if◌, refused}
 use Rattle.machine.specs.Tests.{Place}
 use Rattle.machine.specs.Told.{Texted}
 use Rattle.machine.specs.Types.{Decision, Ledger, Rejected}
@@ -33,7 +33,7 @@ use Rattle.records.specs.declared.refusal.Refusal.TheVariants.{SelfApproval}
 use Rattle.tables.proofs.Indexed.{agent_index, asked_index}
 use Rattle.tables.proofs.Stored.{stored}
 use Rattle.tables.specs.Parts.{cell}
-use Rattle.tables.specs.Tables.{Stands, Tables, decided_row, tables}
+use Rattle.tables.specs.Tables.{Tables, decided_row, tables}
 use Rattle.answers.specs.declared.Answer.TheVariants as Answer
 use Rattle.ledger_callers.specs.declared.Auth.TheVariants as Auth
 use Rattle.ledger_requests.specs.declared.decidable.Decidable.TheVariants as Decidable

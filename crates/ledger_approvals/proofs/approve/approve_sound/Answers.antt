@@ -1,6 +1,7 @@
 -- `ledger_approvals::approve::approve_sound` meets its contract: each answer by the tests before it. Assumes nothing.
+use Rattle.std.proofs.Common.{◌≡◌, rules}
 use Rattle.std.proofs.Math.ListN.{length-set}
-use Rattle.ledger_approvals.proofs.Approving.{approves, mismatch, self, stranger, undecidable}
+use Rattle.ledger_approvals.proofs.Approving.{approves, mismatch, self, stranger, text_part, undecidable}
 use Rattle.ledger_decisions.proofs.Picked.{Ready, agent_in, agent_size, agent_sum, asked_in, asked_size, asked_sum, by_in, by_size, by_sum, head_in, ready, slot_in, slot_next, slot_size, slot_sum, text_end, text_sum}
 use Rattle.tables.specs.Tables.{tables}
 use Rattle.ledger_approvals.proofs.approve.approve_sound.Goals as goal
@@ -42,8 +43,9 @@ returns-then-not-same_bytes c =
 pub returns-then-caller-asked : goal.returns-then-caller-asked
 returns-then-caller-asked c =
     let a = c.args in
+    let read : text_part (tables a.book.now a.keys.now a.texts.now) a.request.0 ≡ a.action.now = search rules in
     rw c.proof_refused-then-caller-asked.ensures
-    (self a.caller a.request a.action.now a.time c.in-At.ensures c.in-At-decidable_request.ensures (c.same_bytes.ensures.yes c.if-not-same_bytes.false) c.if-caller-asked.true)
+    (self a.caller a.request a.action.now a.time c.in-At.ensures c.in-At-decidable_request.ensures read c.if-caller-asked.true)
 
 pub slice_copy_out-head : goal.slice_copy_out-head
 slice_copy_out-head c = head_in (at-hand (goal.at.slice_copy_out-head c).In-At-decidable_request)
