@@ -1,4 +1,3 @@
 pub mod Standing
 pub mod Running
-pub mod Walks
 pub mod Fitting

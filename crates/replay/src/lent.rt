@@ -1,4 +1,4 @@
-// A step of a run whose tally is lent and counted in place, and its caller, which lends its own. Each is a walk by hand.
+// A step of a run whose tally is lent and counted in place, and its caller, which lends its own.
 ghost use Rattle.std.specs.Prelude.{true};
 ghost use Rattle.tables.specs.Tables.{tables};
 ghost use Rattle.replay.specs.Steps.{Steps};
@@ -29,8 +29,8 @@ pub fn step(
         (tables book.old keys.old texts.old)
         (tables book.new keys.new texts.new)
         out.old out.new
-        (record { tally = tally.entry.now; at = at; wrote = wrote; more = true })
-        (record { tally = tally.exit.now; at = result.at; wrote = result.wrote; more = result.more }) }
+        (record { tally = tally.old; at = at; wrote = wrote; more = true })
+        (record { tally = tally.new; at = result.at; wrote = result.wrote; more = result.more }) }
 {
     let p = stepped(book, keys, texts, input, out, *tally, at, wrote);
     *tally = p.tally;
