@@ -20,7 +20,7 @@ pub returns-then-holder-wanted : goal.returns-then-holder-wanted
 returns-then-holder-wanted c = wrong_role _ c.args.caller c.args.role c.if-caller-signer.false _ c.in-At.ensures (λ e. c.if-holder-wanted.true (e ∙ sym c.number_of_role-wanted.ensures))
 
 pub returns-then-holder-signer : goal.returns-then-holder-signer
-returns-then-holder-signer c = mismatch _ c.args.caller c.args.role c.if-caller-signer.false _ c.in-At.ensures (c.if-holder-wanted.false ∙ c.number_of_role-wanted.ensures) c.if-holder-signer.true
+returns-then-holder-signer c = mismatch _ c.args.caller c.args.role c.if-caller-signer.false _ c.in-At.ensures (cc) c.if-holder-signer.true
 
 pub returns : goal.returns
-returns c = authentic _ c.args.caller c.args.role c.if-caller-signer.false _ c.in-At.ensures (c.if-holder-wanted.false ∙ c.number_of_role-wanted.ensures) c.if-holder-signer.false
+returns c = authentic _ c.args.caller c.args.role c.if-caller-signer.false _ c.in-At.ensures (cc) (cc)

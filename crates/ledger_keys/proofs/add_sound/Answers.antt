@@ -20,7 +20,7 @@ pub returns-then-made-ge256 : goal.returns-then-made-ge256
 returns-then-made-ge256 c = log_full _ c.args.caller c.args.key c.args.account c.args.role c.if-caller-head.false c.in_default.ensures c.if-made-ge256.true
 
 pub returns-then-n-ge64 : goal.returns-then-n-ge64
-returns-then-n-ge64 c = keys_full _ c.args.caller c.args.key c.args.account c.args.role c.if-caller-head.false c.in_default.ensures c.if-made-ge256.false c.if-n-ge64.true
+returns-then-n-ge64 c = keys_full _ c.args.caller c.args.key c.args.account c.args.role c.if-caller-head.false c.in_default.ensures (omega arith) c.if-n-ge64.true
 
 pub bounds-keys-n : goal.bounds-keys-n
 bounds-keys-n c = let w = within c.requires in omega (arith, c.if-n-ge64.false)
@@ -32,4 +32,4 @@ pub bounds-book-0 : goal.bounds-book-0
 bounds-book-0 c = let w = within c.requires in simp length-set (omega arith)
 
 pub returns : goal.returns
-returns c = added _ c.args.caller c.args.key c.args.account c.args.role c.if-caller-head.false c.in_default.ensures c.if-made-ge256.false c.if-n-ge64.false c.number_of_role-role_number.ensures c.principal_in.ensures
+returns c = added _ c.args.caller c.args.key c.args.account c.args.role c.if-caller-head.false c.in_default.ensures (omega arith) (omega arith) c.number_of_role-role_number.ensures c.principal_in.ensures

@@ -32,7 +32,7 @@ slice_copy_out-head c = let w = within c.requires in omega arith
 pub returns-then-head-ge256 : goal.returns-then-head-ge256
 returns-then-head-ge256 c =
     rw c.request_refused-then-head-ge256.ensures
-    (full c.args.caller c.args.action.now c.args.time c.in-At.ensures c.if-action-eq0.false c.if-action-gt2048.false c.if-holder-ge16.false c.if-head-ge256.true)
+    (full c.args.caller c.args.action.now c.args.time c.in-At.ensures c.if-action-eq0.false c.if-action-gt2048.false (omega arith) c.if-head-ge256.true)
 
 pub overflow_add-head : goal.overflow_add-head
 overflow_add-head c = let w = within c.requires in omega (arith, c.if-action-gt2048.false)
@@ -40,13 +40,13 @@ overflow_add-head c = let w = within c.requires in omega (arith, c.if-action-gt2
 pub returns-then-head-len-gt32768 : goal.returns-then-head-len-gt32768
 returns-then-head-len-gt32768 c =
     rw c.request_refused-then-head-len-gt32768.ensures
-    (text_full c.args.caller c.args.action.now c.args.time c.in-At.ensures c.if-action-eq0.false c.if-action-gt2048.false c.if-holder-ge16.false c.if-head-ge256.false c.if-head-len-gt32768.true)
+    (text_full c.args.caller c.args.action.now c.args.time c.in-At.ensures c.if-action-eq0.false c.if-action-gt2048.false (omega arith) c.if-head-ge256.false c.if-head-len-gt32768.true)
 
 pub store-requires : goal.store-requires
 store-requires c = record {
   sized = (within c.requires).sized;
   place = place_in c.requires.stands (c.in-At.ensures c.requires.ledger c.requires.stands).1;
-  few = c.if-holder-ge16.false;
+  few = omega arith;
   room = c.if-head-ge256.false;
   text = c.if-head-len-gt32768.false;
 }
@@ -54,4 +54,4 @@ store-requires c = record {
 pub returns : goal.returns
 returns c =
     rw c.request_of-request.ensures
-    (asks_for c.args.caller c.args.action.now c.args.time c.in-At.ensures c.if-action-eq0.false c.if-action-gt2048.false c.if-holder-ge16.false c.if-head-ge256.false c.if-head-len-gt32768.false c.store.ensures)
+    (asks_for c.args.caller c.args.action.now c.args.time c.in-At.ensures c.if-action-eq0.false c.if-action-gt2048.false (omega arith) c.if-head-ge256.false c.if-head-len-gt32768.false c.store.ensures)
