@@ -8,7 +8,6 @@ use Rattle.machine.specs.Types.{Holder, Ledger}
 use Rattle.records.specs.declared.Caller.{Caller}
 use Rattle.records.specs.declared.Role.{Role}
 use Rattle.tables.specs.Tables.{Stands, Tables}
-use Rattle.ledger_callers.specs.declared.Auth.TheVariants as Auth
 
 -- the key at place i is the caller's, in that role; or the machine's refusal
 abbrev pub Authenticates : Tables → Caller → Role → Auth → Type 0

@@ -39,7 +39,6 @@ use Rattle.tables.proofs.Stored.{book_holds, keys_holds, stored, texts_hold}
 use Rattle.tables.specs.Parts.{key_count, log_count, made, owner, request_count, text_used}
 use Rattle.tables.specs.Tables.{Stands, Tables, book_of, head_row, holder_row, key_of, keys_of, revoked_row, tables, tables_of}
 use Rattle.rows.specs.declared.Found.TheVariants as Found
-use Rattle.answers.specs.declared.Registered.TheVariants as Registered
 
 -- ---- what is stored: the holder's row and the head
 abbrev pub new_row : Tables → ℕ → ℕ → List ℕ

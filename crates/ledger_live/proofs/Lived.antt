@@ -20,8 +20,6 @@ use Rattle.tables.proofs.Indexed.{agent_index, asked_index, holder_index}
 use Rattle.tables.proofs.Seeks.{Sought, seek_found, seek_missing}
 use Rattle.tables.specs.Parts.{cell, key_count}
 use Rattle.tables.specs.Tables.{Stands, Tables, holder_row}
-use Rattle.ledger_live.specs.declared.Live.TheVariants as Live
-use Rattle.rows.specs.declared.Found.TheVariants as Found
 
 module _ {t : Tables} {L : Ledger} (st : Stands t L) {n : ℕ} {r : Request} (hr : At L.requests n r) where
   key_is : get_or t.keys (n + 64) [] ≡ r.asked.key

@@ -6,7 +6,6 @@ use Rattle.lists.specs.Places.{At}
 use Rattle.machine.specs.Tests.{Place, live}
 use Rattle.machine.specs.Types.{Holder, Ledger, Request}
 use Rattle.tables.specs.Tables.{Stands, Tables}
-use Rattle.ledger_live.specs.declared.Live.TheVariants as Live
 
 -- the machine's answer, told by the place alone
 abbrev pub LivesAs : Ledger → Option Place → Live → Type 0

@@ -16,7 +16,6 @@ use Rattle.tables.proofs.Laid.{laid}
 use Rattle.tables.proofs.Rows.{made_is}
 use Rattle.tables.specs.Parts.{cell, made}
 use Rattle.tables.specs.Tables.{Stands, Tables, revoked_row}
-use Rattle.records.specs.declared.Revocation.TheVariants as Revocation
 
 unended : (o : Option BlockTime) → get_or (revoked_row o) 0 0 ≡ 0 → revocation_by (some o) ≡ Revocation.Nothing
 unended none e = refl

@@ -27,8 +27,6 @@ use Rattle.tables.proofs.Rows.{request_count_is}
 use Rattle.tables.proofs.Stored.{lengths}
 use Rattle.tables.specs.Parts.{cell, request_count}
 use Rattle.tables.specs.Tables.{Stands, Tables, asked_row, decided_row}
-use Rattle.rows.specs.declared.Found.TheVariants as Found
-use Rattle.ledger_live.specs.declared.Live.TheVariants as Live
 use Rattle.records.specs.declared.status.RequestStatus.TheVariants as Status
 
 -- an undecided request's status, by the key that it is live under

@@ -7,7 +7,6 @@ use Rattle.records.specs.declared.Revocation.{Revocation}
 use Rattle.rows.specs.declared.Found.{Found}
 use Rattle.tables.specs.Parts.{cell, request_count}
 use Rattle.tables.specs.Tables.{Stands, Tables}
-use Rattle.rows.specs.declared.Found.TheVariants as Found
 
 -- request n, if it is there and approved: it has a proof, or none
 abbrev pub ApprovedAt : Tables → ℕ → Found → Type 0

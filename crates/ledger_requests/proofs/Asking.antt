@@ -1,11 +1,10 @@
 -- Each way out of `request_sound`, by what its tests read in the tables. Assumes nothing.
-use mathlib.Core.Path.{◌∙◌, ◌≡◌, ap, refl, sym}
+use mathlib.Core.Path.{◌∙◌, ◌≡◌}
 use Prim.Native.Nat.{◌+◌, ◌<◌, ◌≤◌, ℕ}
 use borrow.Author.Tests.{eq-eqb, le-leb, le-ltb, lt-leb, lt-ltb, ne_eqb}
 use lib.Dec.{eqb, leb, ltb}
-use lib.ListN.{get_or, length}
+use lib.ListN.{length}
 use mathlib.Core.List.{List, [], ◌∷◌}
-use native.Mathlib.Omega.{arith}
 use Rattle.answers.proofs.Doing.{part_did, part_refused}
 use Rattle.answers.specs.Answers.{requested}
 use Rattle.answers.specs.Calls.{request_call}
@@ -20,7 +19,7 @@ use Rattle.lists.specs.Places.{At}
 use Rattle.machine.proofs.Keep.{sound_request}
 use Rattle.machine.proofs.Plans.{bind_did, bind_refused}
 use Rattle.machine.specs.Machine.{Did, asked_by, authenticate, did_request, request_in}
-use Rattle.machine.specs.Plan.{Plan, ◌>>=◌, ◌>>◌, did, done, outcome, refuse◌if◌, refused}
+use Rattle.machine.specs.Plan.{Plan, ◌>>◌, done, outcome, refuse◌if◌, refused}
 use Rattle.machine.specs.Rooms.{pending_limit, request_room, text_limit, text_room}
 use Rattle.machine.specs.Tests.{Place, asks, used}
 use Rattle.machine.specs.Told.{Texted, id_of_request}
@@ -33,7 +32,7 @@ use Rattle.records.specs.declared.refusal.Refusal.{Refusal}
 use Rattle.records.specs.declared.refusal.Refusal.TheVariants.{ActionTooLong, EmptyAction, LogFull, TextFull, TooManyPending}
 use Rattle.rows.specs.Zeros.{zero_key, zero_row}
 use Rattle.tables.specs.Parts.{cell, request_count, text_used}
-use Rattle.tables.specs.Tables.{Stands, Tables, asked_row, holder_row, tables}
+use Rattle.tables.specs.Tables.{Stands, Tables, asked_row, tables}
 use Rattle.answers.specs.declared.Answer.TheVariants as Answer
 use Rattle.ledger_callers.specs.declared.Auth.TheVariants as Auth
 use Rattle.records.specs.declared.Mark.TheVariants as Mark

@@ -15,17 +15,16 @@ use Rattle.machine.proofs.Keep.{asked_of, regs_kept}
 use Rattle.machine.proofs.KeepRooms.{used_snoc}
 use Rattle.machine.specs.Machine.{changed, with_pending}
 use Rattle.machine.specs.Rooms.{request_room, text_room}
-use Rattle.machine.specs.Tests.{Place, asks, regs, used}
+use Rattle.machine.specs.Tests.{asks, regs, used}
 use Rattle.machine.specs.Types.{Asked, Decision, Holder, Ledger, Registration, Request, Undecided}
-use Rattle.rows.proofs.Padded.{paste_padded, set_map, snoc_map, snoc_padded, zero_padded}
+use Rattle.rows.proofs.Padded.{paste_padded, set_map, snoc_padded, zero_padded}
 use Rattle.rows.proofs.Regions.{region_store}
 use Rattle.rows.specs.Padded.{padded}
-use Rattle.rows.specs.Regions.{Holds}
 use Rattle.rows.specs.Zeros.{zero_key, zero_row}
 use Rattle.tables.proofs.Indexed.{head_row_lem, holder_index}
 use Rattle.tables.proofs.Laid.{laid}
 use Rattle.tables.proofs.Relaid.{words_snoc}
-use Rattle.tables.proofs.Rows.{asked_snoc, keys_room, length_asked, length_words, request_count_is, requests_room, text_used_is}
+use Rattle.tables.proofs.Rows.{asked_snoc, keys_room, length_asked, length_words, request_count_is, text_used_is}
 use Rattle.tables.proofs.Stored.{book_holds, keys_holds, stored, texts_hold}
 use Rattle.tables.specs.Parts.{request_count, text_used}
 use Rattle.tables.specs.Tables.{Stands, Tables, agent_of, asked_row, asked_rows, decided_key, decided_row, decision_of, decisions, head_row, holder_row, key_of, log_row, revoked_row, tables, tables_of, words}

@@ -1,14 +1,11 @@
 -- What an answer by place says of the ledger that the tables hold: whether a request may be decided. Assumes nothing.
 use Rattle.std.specs.Prelude.{◌≡◌, ℕ}
-use Rattle.std.proofs.Math.Option.{Option, none, some}
 use Rattle.ledger_requests.specs.declared.decidable.Decidable.{Decidable}
 use Rattle.lists.specs.Places.{At}
 use Rattle.machine.specs.Machine.{Candidate, decidable}
 use Rattle.machine.specs.Plan.{Outcome, did, outcome, refused}
-use Rattle.machine.specs.Tests.{Place, live}
 use Rattle.machine.specs.Types.{Holder, Ledger, Request}
 use Rattle.tables.specs.Tables.{Stands, Tables}
-use Rattle.ledger_requests.specs.declared.decidable.Decidable.TheVariants as Decidable
 
 -- the machine's `decidable`, told by the place alone
 abbrev pub DecidesAs : Ledger → ℕ → Outcome Candidate → Decidable → Type 0

@@ -39,7 +39,6 @@ use Rattle.tables.proofs.Stored.{book_holds, keys_holds, stored, texts_hold}
 use Rattle.tables.specs.Parts.{cell, held, holders, key_count, owner}
 use Rattle.tables.specs.Tables.{Stands, Tables, book_of, head_row, holder_row, key_of, keys_of, revoked_row, tables, tables_of}
 use Rattle.rows.specs.declared.Found.TheVariants as Found
-use Rattle.answers.specs.declared.Registered.TheVariants as Registered
 
 -- ---- what is stored: rows and keys without the registration at place i, its revocation by its number, and the count
 abbrev pub struck : Tables → ℕ → BlockTime → List (List ℕ) → List (List ℕ)

@@ -2,7 +2,6 @@
 use Rattle.std.proofs.Common.{arith, ◌∙◌, sym}
 use Rattle.ledger_callers.proofs.Authentication.{authentic, mismatch, unknown, wrong_role}
 use Rattle.ledger_callers.proofs.Within.{placed_at, within}
-use Rattle.tables.specs.Tables.{Tables, tables}
 use Rattle.ledger_callers.proofs.authenticate.Goals as goal
 
 pub bounds-book-0 : goal.bounds-book-0

@@ -1,5 +1,5 @@
 -- What is left of `ledger_revocations::revoke_sound`: its indices, each answer by the tests on its way, and the stores, which take the registration out. Assumes nothing.
-use Rattle.std.proofs.Common.{arith, length-set}
+use Rattle.std.proofs.Common.{arith}
 use Rattle.ledger_callers.proofs.Within.{placed_at, within}
 use Rattle.ledger_revocations.proofs.Revoking.{not_owner, not_registered, revoked}
 use Rattle.ledger_revocations.proofs.revoke_sound.Goals as goal

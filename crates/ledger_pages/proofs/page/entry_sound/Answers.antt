@@ -8,4 +8,4 @@ pub overflow_add-from : goal.overflow_add-from
 overflow_add-from c = let w = fits c.requires.0.stands in omega (arith, c.requires.1)
 
 pub returns : goal.returns
-returns c = entry_of_row c.slot_row.ensures
+returns c = entry_of_row c.slot_row-row.ensures
