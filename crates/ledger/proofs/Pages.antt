@@ -23,7 +23,6 @@ use Rattle.rows.proofs.Written.{over}
 use Rattle.tables.proofs.Once.{one_ledger}
 use Rattle.tables.specs.Parts.{log_count}
 use Rattle.tables.specs.Tables.{Standing, Tables}
-use Rattle.answers.specs.declared.Paged.TheVariants as Paged
 
 -- an entry as it is
 abbrev same : PageEntry → PageEntry
@@ -100,11 +99,11 @@ module _ {t : Tables} (from limit : ℕ) (page : List PageEntry) where
       | inr n ↦ absurd (omega (arith, none_told n))
     ]
 
-    pub none_by : (k : Standing t ⊎ (Standing t → ⊥)) → page ≡ filled k 0
+    none_by : (k : Standing t ⊎ (Standing t → ⊥)) → page ≡ filled k 0
     none_by (inl w) = refl
     none_by (inr n) = refl
 
-    pub long_by : (k : Standing t ⊎ (Standing t → ⊥)) (i : ℕ) → i ≤ entry_count r → length (filled k i) ≡ length page
+    long_by : (k : Standing t ⊎ (Standing t → ⊥)) (i : ℕ) → i ≤ entry_count r → length (filled k i) ≡ length page
     long_by (inl w) i h = long r w (sound_told w) i h
     long_by (inr n) i h = refl
 
@@ -114,7 +113,7 @@ module _ {t : Tables} (from limit : ℕ) (page : List PageEntry) where
         ∙ ap (filled (inl w)) (add-one i)
     more_by (inr n) i e h s = absurd (omega (arith, none_told n))
 
-    pub whole_by : (k : Standing t ⊎ (Standing t → ⊥)) → Does (entries_call page from limit) t t (record { answer = r; page = filled k (entry_count r) })
+    whole_by : (k : Standing t ⊎ (Standing t → ⊥)) → Does (entries_call page from limit) t t (record { answer = r; page = filled k (entry_count r) })
     unfolding entries_call told_call
     whole_by (inl w) = does_part _ w (part_read _ _ (λ L st. subst (λ (L : Ledger). record { answer = r; page = filled (inl w) (entry_count r) } ≡ entered page (outcome (page_into L from limit (length page)))) (one_ledger w.stands st) (whole r w (sound_told w))))
     whole_by (inr n) = rw (d.damaged n).0 (does_damaged _ n)

@@ -1,5 +1,5 @@
 -- `ledger::page::approvals` meets its contract: which entries the loop may ask for, what each store adds, and what the whole tells. Assumes nothing.
-use Rattle.std.proofs.Common.{◌≡◌, ◌<◌, ◌∙◌, List, ap, sym, add-one, slice_set, arith}
+use Rattle.std.proofs.Common.{◌≡◌, ◌∙◌, List, ap, sym, add-one, slice_set, arith}
 use Rattle.answers.specs.Answers.{entry_count}
 use Rattle.ledger.proofs.Pages.{fill_asks, fill_few, fill_room, fill_whole, filled, more_by}
 use Rattle.records.specs.declared.PageEntry.{PageEntry}
@@ -24,11 +24,13 @@ pub loop-k-preserved : goal.loop-k-preserved
 loop-k-preserved c =
     let a = c.args in
     let k = c.loop-k.k in
-    let e = c.entry_sound.result in
-    (omega arith, λ w.
-      ap (λ (xs : List PageEntry). slice_set xs k e) (c.loop-k.invariant.1 w)
-      ∙ more_by a.from a.limit a.page.now c.page_of-answer.result c.page_of-answer.ensures w k e (omega arith) c.entry_sound.ensures
-      ∙ ap (filled a.from a.limit a.page.now w) (sym (add-one k)))
+    let e = c.entry_sound.result in (
+      omega arith,
+      λ w.
+          ap (λ (xs : List PageEntry). slice_set xs k e) (c.loop-k.invariant.1 w)
+          ∙ more_by a.from a.limit a.page.now c.page_of-answer.result c.page_of-answer.ensures w k e (omega arith) c.entry_sound.ensures
+          ∙ ap (filled a.from a.limit a.page.now w) (sym (add-one k)),
+    )
 
 pub returns : goal.returns
 returns c =
