@@ -1,12 +1,13 @@
 // What the program prints, as a function with a promise: only reading and writing are left to `io`. For `main`.
-ghost use Rattle.std.specs.Prelude.{◌≡◌, ◌≤◌, length, take};
+ghost use Rattle.std.specs.Prelude.{◌≤◌, length};
+ghost use Rattle.replay.specs.Counts.{IsPrefixLen};
 ghost use Rattle.replay.specs.Run.{Prints, lines_room};
 
 // A run on tables of its own: its lines, whole, at the front of `out`, and how many bytes they are.
 pub fn tell(input: &[u8], out: &mut [u8]) -> usize
     requires { lines_room ≤ length out.old }
     ensures prints { Prints input.now out.new result }
-    ensures prefix_len { (result ≤ length out.new) × (result ≡ length (take result out.new)) }
+    ensures prefix_len { IsPrefixLen result out.new }
 {
     let mut book = rooms::book();
     let mut keys = rooms::keys();
