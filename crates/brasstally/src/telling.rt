@@ -1,6 +1,6 @@
 // What the program prints, as a function with a promise: only reading and writing are left to `io`. For `main`.
 ghost use Rattle.std.specs.Prelude.{◌≤◌, length};
-ghost use Rattle.replay.specs.Counts.{IsPrefixLen};
+ghost use Rattle.io.specs.Counts.{IsPrefixLen};
 ghost use Rattle.replay.specs.Run.{Prints, lines_room};
 
 // A run on tables of its own: its lines, whole, at the front of `out`, and how many bytes they are.

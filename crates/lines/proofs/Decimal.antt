@@ -1,48 +1,48 @@
--- The decimal digits of a number, written from the last one on. Assumes nothing.
-use Rattle.std.proofs.Common.{ℕ, zero, suc, ◌≡◌, ◌+◌, ◌-◌, ◌*◌, ◌/◌, ◌%◌, ◌^◌, ◌<◌, ◌≤◌, List, [], ◌∷◌, ◌++◌, length, drop, sym, ap, ◌∙◌, append_assoc, arith}
-use Rattle.std.proofs.Math.Nat.{pow-suc}
-use Rattle.std.proofs.lemmas.Bool.{le-ltb, lt-ltb}
-use Rattle.std.proofs.lemmas.List.{append-nil, drop-set}
-use Rattle.std.proofs.Math.ListN.{set}
+-- The fewest decimal digits of a number are its decimal text. Assumes nothing.
+use mathlib.Core.Path.{◌≡◌}
+use mathlib.Core.Logic.{◌⊎◌, inl, inr}
+use mathlib.Core.List.{List, [], ◌∷◌}
+use Prim.Native.Nat.{ℕ, zero, suc, ◌+◌, ◌-◌, ◌/◌, ◌%◌, ◌^◌, ◌≤◌, ◌<◌}
+use native.Mathlib.Nat.{pow-suc, pow-le-pow_right}
+use native.Mathlib.Omega.{arith}
+use borrow.Author.Tests.{lt-ltb, le-ltb}
+use Rattle.ids.proofs.Flags.{lt_or_ge}
+use Rattle.io.specs.Digits.{last_digits, hex_digit_ascii, IsDigitCount}
 use Rattle.lines.specs.Decimal.{decimal, decimal_by}
 
--- `text` is what follows of n's digits once `rest` is left of it and at most k digits are to come
-pub record IsLeft (n k rest : ℕ) (text : List ℕ) : Type 0 where
-  pub some : 0 < k
-  pub fits : rest < 10 ^ k
-  pub is : decimal_by k rest ++ text ≡ decimal n
+one_digit : (n : ℕ) → n < 10 → ◌≡◌ {A = List ℕ} (hex_digit_ascii (n % 10) ∷ []) ((48 + n) ∷ [])
+one_digit n h = let e : n % 10 ≡ n = omega arith in rw (e, lt-ltb n 10 h)
+
+last_digit : (n : ℕ) → hex_digit_ascii (n % 10) ≡ 48 + n % 10
+last_digit n = let h : n % 10 < 10 = omega arith in rw (lt-ltb (n % 10) 10 h)
+
+pub fewest : (f k n : ℕ) → k ≤ f → IsDigitCount 10 1 n k → last_digits 10 k n ≡ decimal_by f n
+fewest zero k n h d = absurd (omega (arith, d.0))
+fewest (suc f) zero n h d = absurd (omega (arith, d.0))
+fewest (suc f) (suc zero) n h d =
+    let small : n < 10 = omega (arith, d.1, pow-suc 10 0) in
+    rw (lt-ltb n 10 small) (one_digit n small)
+fewest (suc f) (suc (suc k)) n h d =
+    let less : suc (suc k) - 1 ≡ suc k = omega arith in
+    let low : 10 ^ suc k ≤ n = rw less at (d.2 (omega arith)) in
+    let p = pow-suc 10 k in
+    let q = pow-suc 10 (suc k) in
+    let big : 10 ≤ n = omega (arith, pow-le-pow_right {n = 10} (omega arith) {i = 1} {j = suc k} (omega arith), low) in
+    let high : n / 10 < 10 ^ suc k = omega (arith, d.1, q) in
+    let under : suc k - 1 ≡ k = omega arith in
+    let last : 10 ^ (suc k - 1) ≤ n / 10 = rw under (omega (arith, low, p)) in
+    let ih = fewest f (suc k) (n / 10) (omega arith) (omega arith, high, λ more. last) in
+    rw (le-ltb n 10 big, ih, last_digit n)
 
 -- 20 digits hold a 64-bit number
-pub all_left : (n : ℕ) → n < 2 ^ 64 → IsLeft n 20 n []
+pub at_most_20 : (k n : ℕ) → n < 10 ^ 20 → IsDigitCount 10 1 n k → k ≤ 20
+at_most_20 k n h d = go (lt_or_ge 20 k)
+  where
+    go : (20 < k) ⊎ (k ≤ 20) → k ≤ 20
+    go (inl l) = absurd (omega (arith, h, d.2 (omega arith), pow-le-pow_right {n = 10} (omega arith) {i = 20} {j = k - 1} (omega arith)))
+    go (inr l) = l
+
+-- as `io::decimal` gives them
+pub decimal_text : (k n : ℕ) → k ≤ 20 → IsDigitCount 10 1 n k → last_digits 10 k n ≡ decimal n
 unfolding decimal
-all_left n h = record { some = omega arith; fits = omega arith; is = append-nil (decimal_by 20 n) }
-
--- one digit more is written
-pub one_less : (n k rest : ℕ) (text : List ℕ) → 10 ≤ rest → IsLeft n k rest text → IsLeft n (k - 1) (rest / 10) ((48 + rest % 10) ∷ text)
-one_less n zero rest text h l = absurd (omega (arith, l.some))
-one_less n (suc zero) rest text h l = absurd (omega (arith, l.fits, pow-suc 10 0))
-one_less n (suc (suc k)) rest text h l =
-    let e : suc (suc k) - 1 ≡ suc k = omega arith in
-    rw e (record {
-      some = omega arith;
-      fits = omega (arith, l.fits, pow-suc 10 (suc k));
-      is = sym (append_assoc (decimal_by (suc k) (rest / 10)) ((48 + rest % 10) ∷ []) text) ∙ rw (le-ltb rest 10 h) at l.is;
-    })
-
--- the first digit is written
-pub none_left : (n k rest : ℕ) (text : List ℕ) → rest < 10 → IsLeft n k rest text → (48 + rest) ∷ text ≡ decimal n
-none_left n zero rest text h l = absurd (omega (arith, l.some))
-none_left n (suc k) rest text h l = rw (lt-ltb rest 10 h) at l.is
-
--- ---- in the row
-put : (digits : List ℕ) (k d : ℕ) → 0 < k → k ≤ length digits → drop (k - 1) (set digits (k - 1) d) ≡ d ∷ drop k digits
-put digits k d some h =
-    let e : k - 1 + 1 ≡ k = omega arith in
-    drop-set digits (k - 1) d (omega arith) ∙ ap (λ (i : ℕ). d ∷ drop i digits) e
-
-pub put_less : (n k rest : ℕ) (digits : List ℕ) → 10 ≤ rest → k ≤ length digits → IsLeft n k rest (drop k digits)
-    → IsLeft n (k - 1) (rest / 10) (drop (k - 1) (set digits (k - 1) (48 + rest % 10)))
-put_less n k rest digits h long l = rw (put digits k (48 + rest % 10) l.some long) (one_less n k rest (drop k digits) h l)
-
-pub put_last : (n k rest : ℕ) (digits : List ℕ) → rest < 10 → k ≤ length digits → IsLeft n k rest (drop k digits) → drop (k - 1) (set digits (k - 1) (48 + rest)) ≡ decimal n
-put_last n k rest digits h long l = put digits k (48 + rest) l.some long ∙ none_left n k rest (drop k digits) h l
+decimal_text k n h d = fewest 20 k n h d

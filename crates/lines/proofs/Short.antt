@@ -14,12 +14,10 @@ use Rattle.lists.specs.Places.{At}
 use Rattle.records.specs.Refusals.{refusal_number, text_of_refusal}
 use Rattle.records.specs.Statuses.{status_text}
 use Rattle.records.specs.declared.refusal.Refusal.{Refusal}
-use Rattle.records.specs.declared.refusal.Refusal.TheVariants as Refusal
 use Rattle.records.specs.declared.status.RequestStatus.{RequestStatus}
 use Rattle.records.specs.declared.status.RequestStatus.TheVariants as Status
 use Rattle.fields.specs.Faults.{fault_text}
 use Rattle.fields.specs.declared.fault.Fault.{Fault}
-use Rattle.fields.specs.declared.fault.Fault.TheVariants as Fault
 use Rattle.fields.specs.declared.fault.Stop.{Stop}
 use Rattle.lines.specs.Decimal.{decimal, decimal_by}
 use Rattle.lines.specs.Lines.{Told, accepted, standing, refused, spaced, said, line, line_of_stop, end_line}

@@ -1,7 +1,6 @@
 -- What a reply of code tells; the request numbers of a page are lent beside it. Assumes nothing.
 use Rattle.std.specs.Prelude.{ℕ, List, [], ◌∷◌, take}
 use Rattle.lines.specs.declared.reply.Reply.{Reply}
-use Rattle.lines.specs.declared.reply.Reply.TheVariants as Reply
 use Rattle.lines.specs.Lines.{Told, accepted, standing, refused}
 
 abbrev pub told : Reply → List ℕ → Told

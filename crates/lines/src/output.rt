@@ -1,5 +1,5 @@
 // Writing to a lent row of bytes: each function answers where the next text goes. What passes the row's end is left out.
-ghost use Rattle.std.specs.Prelude.{min, ◌≡◌, ◌≤◌, [], ◌∷◌, ◌++◌, take, drop};
+ghost use Rattle.std.specs.Prelude.{min, ◌≡◌, [], ◌∷◌, ◌++◌, take};
 ghost use Rattle.lines.specs.Decimal.{decimal};
 ghost use Rattle.lines.specs.Lines.{spaced};
 ghost use Rattle.lines.specs.Output.{Appends};
@@ -23,29 +23,12 @@ pub fn push(out: &mut [u8], at: usize, bytes: &[u8]) -> usize
     at + bytes.len()
 }
 
-// The decimal digits of n stand at the end of the row, from the place that is answered.
-fn put_digits(digits: &mut [u8; 20], n: u64) -> usize
-    ensures inside { result ≤ 20 }
-    ensures text { drop result digits.new ≡ decimal n }
-{
-    let mut at = 20;
-    let mut rest = n;
-    while rest >= 10 {
-        at -= 1;
-        digits[at] = 48 + (rest % 10) as u8;
-        rest /= 10;
-    }
-    at -= 1;
-    digits[at] = 48 + rest as u8;
-    at
-}
-
 pub fn push_decimal(out: &mut [u8], at: usize, n: u64) -> usize
     ensures { Appends (decimal n) out.old at out.new result }
 {
     let mut digits = [0u8; 20];
-    let first = put_digits(&mut digits, n);
-    push(out, at, &digits[first..])
+    let k = io::decimal(n, &mut digits);
+    push(out, at, &digits[..k])
 }
 
 // A text and a number.

@@ -1,5 +1,5 @@
 // The whole run.
-ghost use Rattle.replay.specs.Counts.{IsPrefixLen};
+ghost use Rattle.io.specs.Counts.{IsPrefixLen};
 ghost use Rattle.tables.specs.Tables.{tables};
 ghost use Rattle.replay.specs.Run.{Replays};
 ghost use Rattle.replay.specs.Steps.{Begins};

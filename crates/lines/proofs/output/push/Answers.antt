@@ -1,6 +1,6 @@
 -- `lines::output::push` meets its contract: each way that a text meets the row's end is a law.
 use Rattle.std.proofs.Common.{arith}
-use Rattle.lines.proofs.Appending.{full, fitted, cut}
+use Rattle.lines.proofs.Appending.{fitted, cut}
 use Rattle.lines.proofs.output.push.Goals as goal
 
 pub returns-then-bytes-room : goal.returns-then-bytes-room
