@@ -7,7 +7,7 @@ use Prim.Native.Nat.{ℕ, suc, ◌+◌, ◌-◌, ◌≤◌, ◌<◌}
 use native.Mathlib.Omega.{arith}
 use lib.ListN.{length, take, drop, length-append}
 use lib.Seq.{take-nil, length-take-le}
-use Rattle.replay.specs.Counts.{IsPrefixLen}
+use Rattle.io.specs.Counts.{IsPrefixLen}
 use Rattle.lists.specs.Tallies.{bit}
 use Rattle.machine.specs.Types.{Bytes, Ledger}
 use Rattle.tables.specs.Tables.{Tables}

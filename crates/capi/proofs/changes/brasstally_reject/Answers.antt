@@ -1,0 +1,7 @@
+-- `capi::changes::brasstally_reject` meets its contract: the ledger's call, told.
+use Rattle.capi.proofs.Telling.{told}
+use Rattle.capi.specs.Outcomes.{requested_outcome}
+use Rattle.capi.proofs.changes.brasstally_reject.Goals as goal
+
+pub returns : goal.returns
+returns c = rw c.of_answer.ensures (told requested_outcome (rw c.signed-caller.ensures at c.reject-made.ensures))
