@@ -2,7 +2,7 @@
 use mathlib.Core.Path.{◌≡◌, refl, sym, ap, subst, ◌∙◌}
 use mathlib.Core.Bool.{Bool, true, false, cond}
 use mathlib.Core.Option.{Option, none, some}
-use mathlib.Core.List.{List, [], ◌∷◌, ◌++◌, map, map-append}
+use mathlib.Core.List.{List, ◌∷◌, map, map-append}
 use Prim.Native.Nat.{ℕ, ◌+◌, ◌-◌}
 use native.Mathlib.Omega.{arith}
 use lib.ListN.{length, take, drop, length-map}
@@ -40,7 +40,7 @@ use Rattle.commands.specs.Commands.{Command, open_by, change, status_of, page_fr
 use Rattle.lines.specs.Lines.{Told, accepted}
 use Rattle.lines.specs.Replies.{told}
 use Rattle.lines.specs.declared.reply.Reply.{Reply}
-use Rattle.acts.specs.Acts.{Acts, Replies, Opened, after_of, request_of, told_change, told_of, told_page, told_status}
+use Rattle.acts.specs.Acts.{Acts, Replies, after_of, request_of, told_change, told_of, told_page, told_status}
 use Rattle.acts.specs.Replies.{number_reply, open_reply, page_reply, registered_reply, status_reply}
 
 -- ---- a change

@@ -1,5 +1,5 @@
 -- What a command of the file does and is told, on the machine and on lent tables (document 01, 'Command file'). Assumes nothing.
-use Rattle.std.specs.Prelude.{◌≡◌, ◌⊎◌, List, [], ◌∷◌, map, ℕ, ◌+◌, ◌≤◌, length}
+use Rattle.std.specs.Prelude.{◌≡◌, List, [], ◌∷◌, map, ℕ, ◌+◌, ◌≤◌, length}
 use Rattle.records.specs.declared.PageEntry.{PageEntry}
 use Rattle.records.specs.declared.refusal.Refusal.TheVariants.{Damaged}
 use Rattle.records.specs.declared.status.RequestStatus.{RequestStatus}

@@ -1,15 +1,10 @@
 -- The reply that each answer of the public ledger makes, by cases. Assumes nothing.
 use Rattle.std.specs.Prelude.{ℕ}
 use Rattle.answers.specs.declared.Answer.{Answer}
-use Rattle.answers.specs.declared.Answer.TheVariants as Answer
 use Rattle.answers.specs.declared.Paged.{Paged}
-use Rattle.answers.specs.declared.Paged.TheVariants as Paged
 use Rattle.answers.specs.declared.Registered.{Registered}
-use Rattle.answers.specs.declared.Registered.TheVariants as Registered
 use Rattle.answers.specs.declared.StatusAnswer.{StatusAnswer}
-use Rattle.answers.specs.declared.StatusAnswer.TheVariants as StatusAnswer
 use Rattle.lines.specs.declared.reply.Reply.{Reply}
-use Rattle.lines.specs.declared.reply.Reply.TheVariants as Reply
 
 abbrev pub open_reply : Answer → Reply
 open_reply Answer.Done = Reply.Done

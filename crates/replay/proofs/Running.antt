@@ -2,7 +2,7 @@
 use mathlib.Core.Path.{◌≡◌, refl, sym, ap, subst, ◌∙◌}
 use mathlib.Core.Bool.{Bool, true, false, cond, false≢true}
 use mathlib.Core.Option.{Option, none, some}
-use mathlib.Core.List.{List, [], ◌++◌, append-nil}
+use mathlib.Core.List.{List, [], ◌++◌}
 use Prim.Native.Nat.{ℕ, suc, ◌+◌, ◌-◌, ◌≤◌, ◌<◌}
 use native.Mathlib.Omega.{arith}
 use lib.ListN.{length, take, drop, length-append}
@@ -11,28 +11,26 @@ use Rattle.io.specs.Counts.{IsPrefixLen}
 use Rattle.lists.specs.Tallies.{bit}
 use Rattle.machine.specs.Types.{Bytes, Ledger}
 use Rattle.tables.specs.Tables.{Tables}
-use Rattle.fields.specs.declared.fault.Fault.{Fault}
 use Rattle.fields.specs.declared.fault.Stop.{Stop}
 use Rattle.fields.specs.declared.fault.Fault.TheVariants.{InputTooLong}
 use Rattle.commands.specs.declared.command.Command.{Command as ReadCommand}
 use Rattle.commands.specs.declared.command.Command.TheVariants as Is
-use Rattle.commands.specs.Answers.{meant, lent, Placed, Tells}
-use Rattle.commands.specs.Commands.{Command, Read, open_by, command, end, stopped_by, after, file_by, empty, command_read, read_from, read_all, too_long}
+use Rattle.commands.specs.Answers.{Placed}
+use Rattle.commands.specs.Commands.{Command, Read, open_by, command, end, stopped_by, after, file_by, empty, command_read, read_from, too_long}
 use Rattle.commands.proofs.First.{first_opens}
 use Rattle.commands.proofs.Progress.{enough, progress}
 use Rattle.lines.specs.Lines.{Told, counted, line, end_line, no_tally, line_of_stop}
 use Rattle.lines.specs.Output.{Wrote, Appends}
 use Rattle.lines.specs.Replies.{told}
 use Rattle.lines.specs.declared.reply.Reply.{Reply}
-use Rattle.lines.specs.declared.reply.Reply.TheVariants as Reply
 use Rattle.lines.specs.declared.tally.Tally.{Tally}
 use Rattle.lines.proofs.Appending.{nothing}
 use Rattle.acts.specs.Acts.{Acts, Inside}
 use Rattle.replay.specs.declared.each.Progress.{Progress}
 use Rattle.replay.specs.declared.file.Ran.{Ran}
-use Rattle.replay.specs.Run.{Acted, State, Ends, Replays, acted, one, output, sized, start, stopping, through, told_more, whole}
+use Rattle.replay.specs.Run.{State, Ends, Replays, acted, one, output, sized, start, stopping, through, whole}
 use Rattle.replay.specs.Steps.{Begins, Coming, Going, Held, Steps}
-use Rattle.replay.proofs.Standing.{Done, command_done}
+use Rattle.replay.proofs.Standing.{command_done}
 
 -- ---- the file, from a place on
 module _ (input : Bytes) (at : ℕ) where
