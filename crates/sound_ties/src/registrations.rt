@@ -12,6 +12,7 @@ pub struct Placed {
 }
 
 // Whether no key's registration is revoked or another key's. The first fault ends the pass.
+#[tactic(auto, using(crate::proofs::Forces::twice))]
 pub fn in_force(holders: &[[u64; 6]], revoked: &[[u64; 6]], n: usize) -> Placed
     requires { (n ≤ length holders.now) × (256 ≤ length revoked.now) × Numbered n 2 holders.now }
     ensures { Noted result (InForce n holders.now revoked.now) n holders.now }
