@@ -1,8 +1,11 @@
 -- What is left of `ledger_callers::authenticate`: its indices, and each answer by the tests on its way. Assumes nothing.
 use Rattle.std.proofs.Common.{arith, ◌∙◌, sym}
-use Rattle.ledger_callers.proofs.Authentication.{authentic, mismatch, unknown, wrong_role}
+use Rattle.ledger_callers.proofs.Authentication.{authentic, indirect, mismatch, unknown, wrong_role}
 use Rattle.ledger_callers.proofs.Within.{placed_at, within}
 use Rattle.ledger_callers.proofs.authenticate.Goals as goal
+
+pub returns-then-caller-signer : goal.returns-then-caller-signer
+returns-then-caller-signer c = indirect _ c.args.caller c.args.role c.if-caller-signer.true
 
 pub bounds-book-0 : goal.bounds-book-0
 bounds-book-0 c = omega (arith, (within c.requires).book_long)

@@ -16,4 +16,4 @@ returns-then-room-size c = part_read _ _ (λ L st. ap page_told (sym (no_room st
 
 pub returns : goal.returns
 unfolding told_call
-returns c = part_read _ _ (λ L st. page_counted st _ _ _ _ c.page_size-size.ensures c.if-room-size.false)
+returns c = part_read _ _ (λ L st. page_counted st _ _ _ _ c.page_size-size.ensures (omega arith))

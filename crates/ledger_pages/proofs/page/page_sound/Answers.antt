@@ -23,4 +23,4 @@ loop-k-preserved c = (
 
 pub returns : goal.returns
 unfolding page_call
-returns c = part_read _ _ (λ L st. page_written st _ _ c.args.rows.now _ c.loop-k.k _ (c.loop-k.invariant.2 L st) c.page_size-size.ensures (omega arith) c.if-rows-size.false)
+returns c = part_read _ _ (λ L st. page_written st _ _ c.args.rows.now _ c.loop-k.k _ (c.loop-k.invariant.2 L st) c.page_size-size.ensures (omega arith) (omega arith))
