@@ -12,7 +12,7 @@ use Rattle.answers.specs.Does.{Does}
 use Rattle.answers.specs.declared.Answer.{Answer}
 use Rattle.answers.specs.Texts.{extent}
 use Rattle.capi.specs.Entries.{OpensTold, add_entry, approve_entry, block_time, page_entry, proof_entry, reject_entry, request_entry, revocations_entry, revoke_entry}
-use Rattle.capi.specs.Outcomes.{PageTold, ProofTold, RowTold, opened_outcome, page_told, proof_told, proved_outcome, refused_as, registered_outcome, requested_outcome}
+use Rattle.capi.specs.Outcomes.{PageTold, ProofTold, RowTold, opened_outcome, page_told, proof_told, proved_outcome, registered_outcome, requested_outcome}
 use Rattle.capi.specs.declared.outcomes.Outcome.{Outcome}
 use Rattle.machine.specs.Machine.{Did, add_to, approve_in, reject_in, request_in, revoke_in}
 use Rattle.machine.specs.Plan.{Outcome as Told, Plan, did, outcome, refused}

@@ -7,13 +7,12 @@ use Rattle.answers.proofs.Doing.{does_part, part_read}
 use Rattle.answers.specs.Answers.{shown}
 use Rattle.answers.specs.Calls.{approval_call, revocations_call}
 use Rattle.answers.specs.Does.{Does, Part}
-use Rattle.answers.specs.Texts.{Extent, extent}
+use Rattle.answers.specs.Texts.{extent}
 use Rattle.answers.specs.declared.ProofAnswer.{ProofAnswer}
 use Rattle.answers.specs.declared.Shown.{Shown}
 use Rattle.capi.proofs.Telling.{told}
 use Rattle.capi.specs.Entries.{TextPlace, proof_entry, revocations_entry}
 use Rattle.capi.specs.Outcomes.{ProofTold, RowTold, accepted, ended_cells, proof_by, proof_row, proof_told, refused_as, revocations_told}
-use Rattle.capi.specs.declared.outcomes.Outcome.{Outcome}
 use Rattle.machine.specs.Reads.{approval}
 use Rattle.machine.specs.Told.{id_of_registration, id_of_request}
 use Rattle.machine.specs.Types.{Bytes, Ledger}
@@ -21,9 +20,7 @@ use Rattle.records.specs.declared.ProofRevocations.{ProofRevocations}
 use Rattle.records.specs.declared.Revocation.{Revocation}
 use Rattle.records.specs.declared.refusal.Refusal.{Refusal}
 use Rattle.tables.specs.Tables.{Standing, Stands, Tables}
-use Rattle.answers.specs.declared.ProofAnswer.TheVariants as ProofAnswer
 use Rattle.answers.specs.declared.RevocationsAnswer.TheVariants as RevocationsAnswer
-use Rattle.records.specs.declared.Revocation.TheVariants as Revocation
 
 -- ---- the proof that the ledger's part shows, told
 module _ (row : List ℕ) (a b : Bytes) (n : ℕ) {t : Tables} {s : Shown} (w : Standing t) (p : Part (approval_call (id_of_request n)) t t s) where

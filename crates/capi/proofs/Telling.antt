@@ -1,6 +1,6 @@
 -- How an entry meets its promise: the ledger's promise, its answer told; the two roles and all other numbers; a check as 1 or 0. For the entries' proofs. Assumes nothing.
 use mathlib.Core.Logic.{inl, inr}
-use mathlib.Core.Path.{◌≡◌, ap, refl}
+use mathlib.Core.Path.{ap, refl}
 use Prim.Native.Nat.{◌<◌, ◌≤◌, suc, zero, ℕ}
 use native.Mathlib.Omega.{arith}
 use Rattle.answers.proofs.Doing.{does_damaged, does_part, part_read}

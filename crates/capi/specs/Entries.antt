@@ -3,7 +3,7 @@ use Rattle.std.specs.Prelude.{◌⊎◌, ◌≡◌, suc, zero, ℕ, List, [], �
 use Rattle.answers.specs.Answers.{shown}
 use Rattle.answers.specs.Calls.{add_call, approve_call, page_call, read_call, reject_call, request_call, revocations_call, revoke_call, status_call}
 use Rattle.answers.specs.Does.{Call, Opens}
-use Rattle.answers.specs.Texts.{Extent, extent}
+use Rattle.answers.specs.Texts.{extent}
 use Rattle.answers.specs.declared.Answer.{Answer}
 use Rattle.capi.specs.Outcomes.{PageTold, ProofTold, RowTold, no_such_role, opened_outcome, page_told, proof_told, proved_outcome}
 use Rattle.capi.specs.Outcomes.{refused_as, registered_outcome, requested_outcome, revocations_told, status_outcome}

@@ -19,13 +19,6 @@ use Rattle.records.specs.declared.ApprovalProof.{ApprovalProof}
 use Rattle.records.specs.declared.Revocation.{Revocation}
 use Rattle.records.specs.declared.refusal.Refusal.{Refusal}
 use Rattle.records.specs.declared.status.RequestStatus.{RequestStatus}
-use Rattle.answers.specs.declared.Answer.TheVariants as Answer
-use Rattle.answers.specs.declared.Paged.TheVariants as Paged
-use Rattle.answers.specs.declared.ProofAnswer.TheVariants as ProofAnswer
-use Rattle.answers.specs.declared.Registered.TheVariants as Registered
-use Rattle.answers.specs.declared.RevocationsAnswer.TheVariants as RevocationsAnswer
-use Rattle.answers.specs.declared.StatusAnswer.TheVariants as StatusAnswer
-use Rattle.records.specs.declared.Revocation.TheVariants as Revocation
 use Rattle.records.specs.declared.status.RequestStatus.TheVariants as Status
 
 -- ---- refusal 0 is none; beside a refusal the number is 0
