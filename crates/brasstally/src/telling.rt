@@ -1,4 +1,4 @@
-// What the program prints, as a function with a promise: only reading and writing are left to `io`. For `main`.
+// What the program prints, as a function with a promise: only reading and writing are left to the runtime. For `main`.
 ghost use Rattle.std.specs.Prelude.{◌≤◌, length};
 ghost use Rattle.io.specs.Counts.{IsPrefixLen};
 ghost use Rattle.replay.specs.Run.{Prints, lines_room};
