@@ -149,7 +149,15 @@ impl<S: Subject> Suite<S> {
         self.files(Way::Whole, "tag", inputs::every_tag());
         self.files(Way::Whole, "length", inputs::every_length());
         self.files(Way::Whole, "cut", inputs::every_cut_and_change());
+        self.limits();
+    }
+
+    // Few cases, and what each share has reached is judged: so every share tries them all.
+    fn limits(&mut self) {
+        let share = self.share;
+        self.share = Share { first: 0, of: 1 };
         self.files(Way::Both, "limit", inputs::at_the_limit());
+        self.share = share;
     }
 
     // Each table one row short, one too long, or empty: all is refused with 20, in single calls and in whole files.
