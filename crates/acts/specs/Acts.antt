@@ -1,5 +1,5 @@
 -- What a command of the file does and is told, on the machine and on lent tables (document 01, 'Command file'). Assumes nothing.
-use Rattle.std.specs.Prelude.{◌≡◌, List, [], ◌∷◌, map, ℕ, ◌+◌, ◌≤◌, length}
+use Rattle.std.specs.Prelude.{◌≡◌, List, [], ◌∷◌, map, ℕ, length}
 use Rattle.records.specs.declared.PageEntry.{PageEntry}
 use Rattle.records.specs.declared.refusal.Refusal.TheVariants.{Damaged}
 use Rattle.records.specs.declared.status.RequestStatus.{RequestStatus}
@@ -11,30 +11,27 @@ use Rattle.machine.specs.Types.{Ledger}
 use Rattle.tables.specs.Tables.{Sized, Stands, Tables}
 use Rattle.answers.specs.Does.{Call, Does}
 use Rattle.commands.specs.Commands.{Command, open_by, change, status_of, page_from}
-use Rattle.commands.specs.declared.command.Command.{Command as ReadCommand}
-use Rattle.commands.specs.declared.command.Command.TheVariants as Is
-use Rattle.lines.specs.Replies.{told}
-use Rattle.lines.specs.declared.reply.Reply.{Reply}
 use Rattle.lines.specs.Lines as lines
 use Rattle.lines.specs.Lines.{Told, accepted, standing}
 
--- ---- what each outcome is told as
+-- ---- what each outcome is told as: f of what was done, or why it was refused
+abbrev pub told_as : {A : Type 0} → (A → Told) → Outcome A → Told
+told_as f (refused e) = lines.refused e
+told_as f (did a) = f a
+
 -- 'the registration number, request number, approval index'
 abbrev pub told_change : Outcome (Did Given) → Told
-told_change (refused e) = lines.refused e
-told_change (did d) = accepted (told_by d.given ∷ [])
+told_change o = told_as (λ d. accepted (told_by d.given ∷ [])) o
 
 abbrev pub told_status : Outcome RequestStatus → Told
-told_status (refused e) = lines.refused e
-told_status (did s) = standing s
+told_status o = told_as standing o
 
 -- 'the page's number of entries and their request numbers'
 abbrev pub request_of : PageEntry → ℕ
 request_of e = e.request_id.0
 
 abbrev pub told_page : Outcome (List PageEntry) → Told
-told_page (refused e) = lines.refused e
-told_page (did es) = accepted (length es ∷ map request_of es)
+told_page o = told_as (λ es. accepted (length es ∷ map request_of es)) o
 
 -- ---- a command on a sound ledger: what it is told, and the ledger after it. A page is asked for with a row for every entry that it may have
 unfoldable pub told_of : Ledger → Command → Told
@@ -62,18 +59,3 @@ Acts (open_by owner) t t' w = Opened owner t t' w
 Acts (change c) t t' w = Does (command_call (change c)) t t' w
 Acts (status_of n) t t' w = Does (command_call (status_of n)) t t' w
 Acts (page_from from limit) t t' w = Does (command_call (page_from from limit)) t t' w
-
--- a reply that no request numbers are needed for
-abbrev pub Replies : Command → Tables → Tables → Reply → Type 0
-Replies c t t' r = (requests : List ℕ) → Acts c t t' (told r requests)
-
--- the text of a command lies in an input of n bytes
-abbrev pub Inside : ℕ → ReadCommand → Type 0
-Inside n (Is.Open a) = Unit {0}
-Inside n (Is.Add c) = Unit {0}
-Inside n (Is.Revoke c) = Unit {0}
-Inside n (Is.Request c) = c.text_start + c.text_len ≤ n
-Inside n (Is.Approve c) = c.text_start + c.text_len ≤ n
-Inside n (Is.Reject c) = Unit {0}
-Inside n (Is.Status m) = Unit {0}
-Inside n (Is.Page c) = Unit {0}

@@ -1,9 +1,8 @@
 -- Demand 1, for every call at once: any two outcomes that the promise allows are the same; and a refused call changes no byte. Assumes nothing.
-use Rattle.std.proofs.Common.{inl, inr, ◌∙◌, ◌≡◌, ap, sym, ℕ, Bor, List}
+use Rattle.std.proofs.Common.{inl, inr, ◌∙◌, ◌≡◌, ap, sym, ℕ, Bor, List, Result}
 use Rattle.answers.specs.Calls.{change_call}
 use Rattle.answers.specs.Does.{Call, Does, Opens}
 use Rattle.answers.specs.Texts.{Extent, Lies, TextRead}
-use Rattle.answers.specs.declared.Answer.{Answer}
 use Rattle.machine.specs.Machine.{Did, left, plan}
 use Rattle.machine.specs.Plan.{Outcome, Plan, outcome, refused}
 use Rattle.machine.specs.Tests.{same}
@@ -34,7 +33,7 @@ pub refusal_changes_nothing : {A B : Type 0} (tell : Outcome (Did A) → B) (pla
 refusal_changes_nothing tell plan a h = unchanged (change_call tell plan) a (λ L st. ap (left L) (h L st).1)
 
 -- ---- opening, and the read that hands a part back
-pub opens_determined : {owner : ℕ} {t u v : Tables} {r q : Answer} → Opens owner t u r → Opens owner t v q → (r ≡ q) × (u ≡ v)
+pub opens_determined : {owner : ℕ} {t u v : Tables} {r q : Result (Unit {0}) Refusal} → Opens owner t u r → Opens owner t v q → (r ≡ q) × (u ≡ v)
 opens_determined a b = elim a.known [
   | inl w ↦ let x = a.opened_then w in let y = b.opened_then w in (x.0 ∙ sym y.0, x.1.laid ∙ sym y.1.laid)
   | inr n ↦ let x = a.unsized n in let y = b.unsized n in (x.0 ∙ sym y.0, x.1 ∙ sym y.1)

@@ -1,5 +1,8 @@
 -- The ways to meet the promise: a return that refuses, one that did what the machine does, one that only read; and a public call, as its check and its part. Assumes nothing.
 use Rattle.std.proofs.Common.{inl, inr, ◌∙◌, ◌≡◌, ap, refl, subst, sym}
+use Rattle.std.specs.Prelude.{Result, Err}
+use Rattle.std.specs.Result.{IsErr, IsErrAnd}
+use Rattle.std.proofs.lemmas.Result.{err_from_is_err_and}
 use Rattle.answers.specs.Calls.{change_call, read_call}
 use Rattle.answers.specs.Does.{Call, Does, Part}
 use Rattle.machine.specs.Machine.{Did, left}
@@ -8,6 +11,10 @@ use Rattle.machine.specs.Sound.{Sound}
 use Rattle.machine.specs.Types.{Ledger}
 use Rattle.records.specs.declared.refusal.Refusal.{Refusal}
 use Rattle.tables.specs.Tables.{Standing, Stands, Tables, tables_of}
+
+-- what `?` hands on is the refusal that came with the answer
+pub handed_on : {A : Type 0} {e : Refusal} {r : Result A Refusal} → IsErr r × IsErrAnd r (λ x. x ≡ e) → r ≡ Err e
+handed_on {r = r} h = let p = err_from_is_err_and r h.1 in p.1 ∙ ap Err p.2
 
 -- ---- a part's returns
 module _ {A B : Type 0} (tell : Outcome (Did A) → B) (plan : Ledger → Plan (Did A)) {t : Tables} where
@@ -38,3 +45,13 @@ module _ {A : Type 0} (call : Call A) {t : Tables} where
 
   pub does_part : {t' : Tables} {r : A} → Standing t → Part call t t' r → Does call t t' r
   does_part w p = record { sound = p.does; damaged = λ n. absurd (n w); known = inl w }
+
+-- ---- a call told as another: f of its answers is the other's, and the ledger after it is the same
+pub does_as : {A B : Type 0} (f : A → B) {call : Call A} {other : Call B}
+    → f call.bad ≡ other.bad → ((L : Ledger) → f (call.answer L) ≡ other.answer L) → ((L : Ledger) → call.after L ≡ other.after L)
+    → {t t' : Tables} {r : A} {q : B} → Does call t t' r → q ≡ f r → Does other t t' q
+does_as f bad answer after {t' = t'} d e = record {
+  sound = λ L st. let w = d.sound L st in (e ∙ ap f w.0 ∙ answer L, subst (λ (M : Ledger). Stands t' M) (after L) w.1);
+  damaged = λ n. let w = d.damaged n in (e ∙ ap f w.0 ∙ bad, w.1);
+  known = d.known;
+}

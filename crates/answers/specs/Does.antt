@@ -1,9 +1,8 @@
 -- The promise of every public call (document 01, demands 1 and 2): one record for all. Assumes nothing.
-use Rattle.std.specs.Prelude.{◌⊎◌, ◌≡◌, ℕ}
-use Rattle.answers.specs.declared.Answer.{Answer}
-use Rattle.answers.specs.declared.Answer.TheVariants.{Done, Refused}
+use Rattle.std.specs.Prelude.{◌⊎◌, ◌≡◌, ℕ, Result, Ok, Err}
 use Rattle.machine.specs.Machine.{opened}
 use Rattle.machine.specs.Types.{Ledger}
+use Rattle.records.specs.declared.refusal.Refusal.{Refusal}
 use Rattle.records.specs.declared.refusal.Refusal.TheVariants.{Damaged}
 use Rattle.tables.specs.Tables.{Sized, Standing, Stands, Tables}
 
@@ -24,7 +23,7 @@ pub record Does {A : Type 0} (call : Call A) (t t' : Tables) (r : A) : Type 0 wh
   pub known : Standing t ⊎ (Standing t → ⊥)
 
 -- opening asks only for the right lengths
-pub record Opens (owner : ℕ) (t t' : Tables) (r : Answer) : Type 0 where
-  pub opened_then : Sized t → (r ≡ Done) × Stands t' (opened owner)
-  pub unsized : (Sized t → ⊥) → (r ≡ Refused Damaged) × (t' ≡ t)
+pub record Opens (owner : ℕ) (t t' : Tables) (r : Result (Unit {0}) Refusal) : Type 0 where
+  pub opened_then : Sized t → (r ≡ Ok tt) × Stands t' (opened owner)
+  pub unsized : (Sized t → ⊥) → (r ≡ Err Damaged) × (t' ≡ t)
   pub known : Sized t ⊎ (Sized t → ⊥)

@@ -8,7 +8,8 @@ use std::rt::Files;
 use std::{env, fs, io};
 
 fn run_from(rt: &impl Print, from: &mut impl Read) -> io::Result<()> {
-    let mut input = rooms::input();
+    // One byte more than a command file may have, so that a longer one is seen to be.
+    let mut input = rooms::zeros::<u8, 65537>(0);
     let n = rooms::reading::read_full(from, &mut input)?;
     run_lines(rt, &input[..n])
 }

@@ -9,9 +9,7 @@ pub fn tell(input: &[u8], out: &mut [u8]) -> usize
     ensures prints { Prints input.now out.new result }
     ensures prefix_len { IsPrefixLen result out.new }
 {
-    let mut book = rooms::book();
-    let mut keys = rooms::keys();
-    let mut texts = rooms::texts();
-    let ran = replay::run(&mut book, &mut keys, &mut texts, input, out);
+    let mut t = rooms::Tables::new();
+    let ran = replay::run(&mut t.book, &mut t.keys, &mut t.texts, input, out);
     ran.wrote
 }

@@ -5,11 +5,11 @@ use mathlib.Core.Path.{◌∙◌, ◌≡◌, ap, refl}
 use Prim.Native.Nat.{suc, zero, ℕ}
 use lib.ListN.{length}
 use mathlib.Core.List.{List}
+use Rattle.std.specs.Prelude.{Result}
 use Rattle.answers.proofs.Determined.{refusal_changes_nothing, unchanged}
-use Rattle.answers.specs.Answers.{paged, proved, registered, requested, shown}
+use Rattle.answers.specs.Answers.{entry_row, paged, proved, registered, requested, shown}
 use Rattle.answers.specs.Calls.{add_call, approve_call, change_call, page_call, read_call, reject_call, request_call, revocations_call, revoke_call}
 use Rattle.answers.specs.Does.{Does}
-use Rattle.answers.specs.declared.Answer.{Answer}
 use Rattle.answers.specs.Texts.{extent}
 use Rattle.capi.specs.Entries.{OpensTold, add_entry, approve_entry, block_time, page_entry, proof_entry, reject_entry, request_entry, revocations_entry, revoke_entry}
 use Rattle.capi.specs.Outcomes.{PageTold, ProofTold, RowTold, opened_outcome, page_told, proof_told, proved_outcome, registered_outcome, requested_outcome}
@@ -22,7 +22,7 @@ use Rattle.machine.specs.Types.{Bytes, Ledger}
 use Rattle.records.specs.declared.ApprovalProof.{ApprovalProof}
 use Rattle.records.specs.declared.Caller.{Caller}
 use Rattle.records.specs.declared.PageEntry.{PageEntry}
-use Rattle.records.specs.declared.Role.TheVariants.{Agent, Approver}
+use Rattle.records.specs.declared.role.Role.TheVariants.{Agent, Approver}
 use Rattle.records.specs.declared.refusal.Refusal.{Refusal}
 use Rattle.tables.specs.Tables.{Tables}
 
@@ -33,7 +33,7 @@ Refuses r = r.refusal ≡ 0 → ⊥
 -- ---- opening
 pub refused_open : {owner : ℕ} {t u : Tables} {r : Outcome} → OpensTold owner t u r → Refuses r → u ≡ t
 refused_open o h = elim o.opens.known [
-  | inl s ↦ absurd (h (ap (λ (x : Outcome). x.refusal) o.told ∙ ap (λ (a : Answer). (opened_outcome a).refusal) (o.opens.opened_then s).0))
+  | inl s ↦ absurd (h (ap (λ (x : Outcome). x.refusal) o.told ∙ ap (λ (a : Result (Unit {0}) Refusal). (opened_outcome a).refusal) (o.opens.opened_then s).0))
   | inr n ↦ (o.opens.unsized n).1
 ]
 
@@ -85,7 +85,7 @@ pub refused_page : (rows : List (List ℕ)) (start limit : ℕ) {t u : Tables} {
 unfolding page_call
 refused_page rows start limit d h = left_alone _ _ d (λ (x : PageTold). x.rows) (λ (x : PageTold). x.outcome) (λ L. go (outcome (page_into L start limit (length rows)))) h
   where
-    go : (o : Told (List PageEntry)) → Refuses (page_told (paged rows o)).outcome → (page_told (paged rows o)).rows ≡ rows
+    go : (o : Told (List PageEntry)) → Refuses (page_told (paged entry_row rows o)).outcome → (page_told (paged entry_row rows o)).rows ≡ rows
     go (refused e) h = refl
     go (did es) h = absurd (h refl)
 

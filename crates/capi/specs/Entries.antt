@@ -1,10 +1,9 @@
 -- What each entry does, on plain numbers: the ledger's own call, its answer told as an outcome. For the entries' promises. Assumes nothing.
-use Rattle.std.specs.Prelude.{◌⊎◌, ◌≡◌, suc, zero, ℕ, List, [], ◌∷◌}
-use Rattle.answers.specs.Answers.{shown}
+use Rattle.std.specs.Prelude.{◌⊎◌, ◌≡◌, suc, zero, ℕ, List, [], ◌∷◌, Result}
+use Rattle.answers.specs.Answers.{entry_row, shown}
 use Rattle.answers.specs.Calls.{add_call, approve_call, page_call, read_call, reject_call, request_call, revocations_call, revoke_call, status_call}
 use Rattle.answers.specs.Does.{Call, Opens}
 use Rattle.answers.specs.Texts.{extent}
-use Rattle.answers.specs.declared.Answer.{Answer}
 use Rattle.capi.specs.Outcomes.{PageTold, ProofTold, RowTold, no_such_role, opened_outcome, page_told, proof_told, proved_outcome}
 use Rattle.capi.specs.Outcomes.{refused_as, registered_outcome, requested_outcome, revocations_told, status_outcome}
 use Rattle.capi.specs.declared.outcomes.Outcome.{Outcome}
@@ -13,7 +12,8 @@ use Rattle.machine.specs.Told.{account, id_of_registration, id_of_request}
 use Rattle.machine.specs.Types.{Bytes, Ledger}
 use Rattle.records.specs.declared.BlockTime.{BlockTime}
 use Rattle.records.specs.declared.Caller.{Caller}
-use Rattle.records.specs.declared.Role.TheVariants.{Agent, Approver}
+use Rattle.records.specs.declared.role.Role.TheVariants.{Agent, Approver}
+use Rattle.records.specs.declared.refusal.Refusal.{Refusal}
 use Rattle.records.specs.declared.refusal.Refusal.TheVariants.{Damaged}
 use Rattle.tables.specs.Tables.{Stands, Tables}
 
@@ -23,7 +23,7 @@ told_call f call = record { bad = f call.bad; answer = λ L. f (call.answer L); 
 
 -- opening, its answer told
 pub record OpensTold (owner : ℕ) (t t' : Tables) (r : Outcome) : Type 0 where
-  pub answer : Answer
+  pub answer : Result (Unit {0}) Refusal
   pub opens : Opens owner t t' answer
   pub told : r ≡ opened_outcome answer
 
@@ -65,7 +65,7 @@ status_entry n = told_call status_outcome (status_call (id_of_request n))
 
 -- the lent rows as they were at entry
 abbrev pub page_entry : List (List ℕ) → ℕ → ℕ → Call PageTold
-page_entry rows start limit = told_call page_told (page_call rows start limit)
+page_entry rows start limit = told_call page_told (page_call entry_row rows start limit)
 
 -- what is lent as it was at entry; the proof with the place of its text
 abbrev pub proof_entry : List ℕ → Bytes → Bytes → ℕ → Call ProofTold

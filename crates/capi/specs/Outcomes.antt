@@ -1,22 +1,16 @@
 -- What an answer is for a host, case by case: document 01's refusal number and the number of an accepted line ('Refusal table', 'Command file'). For the entries' promises.
 -- Assumes nothing.
-use Rattle.std.specs.Prelude.{ℕ, List, [], ◌++◌, ◌∷◌}
+use Rattle.std.specs.Prelude.{ℕ, List, [], ◌++◌, ◌∷◌, Option, Some, None, Result, Ok, Err}
 use Rattle.answers.specs.Answers.{PageOut}
 use Rattle.answers.specs.Texts.{Extent}
-use Rattle.answers.specs.declared.Answer.{Answer}
-use Rattle.answers.specs.declared.Paged.{Paged}
-use Rattle.answers.specs.declared.ProofAnswer.{ProofAnswer}
-use Rattle.answers.specs.declared.Proved.{Proved}
-use Rattle.answers.specs.declared.Registered.{Registered}
-use Rattle.answers.specs.declared.Requested.{Requested}
-use Rattle.answers.specs.declared.RevocationsAnswer.{RevocationsAnswer}
-use Rattle.answers.specs.declared.Shown.{Shown}
-use Rattle.answers.specs.declared.StatusAnswer.{StatusAnswer}
 use Rattle.capi.specs.declared.outcomes.Outcome.{Outcome}
 use Rattle.machine.specs.Types.{Bytes}
 use Rattle.records.specs.Refusals.{refusal_number}
+use Rattle.records.specs.declared.ActionRequest.{ActionRequest}
 use Rattle.records.specs.declared.ApprovalProof.{ApprovalProof}
-use Rattle.records.specs.declared.Revocation.{Revocation}
+use Rattle.records.specs.declared.BlockTime.{BlockTime}
+use Rattle.records.specs.declared.Principal.{Principal}
+use Rattle.records.specs.declared.ProofRevocations.{ProofRevocations}
 use Rattle.records.specs.declared.refusal.Refusal.{Refusal}
 use Rattle.records.specs.declared.status.RequestStatus.{RequestStatus}
 use Rattle.records.specs.declared.status.RequestStatus.TheVariants as Status
@@ -32,24 +26,27 @@ refused_as e = record { refusal = refusal_number e; number = 0 }
 abbrev pub no_such_role : Outcome
 no_such_role = record { refusal = 255; number = 0 }
 
--- ---- opening has no number
-abbrev pub outcome_by : Answer → ℕ → Outcome
-outcome_by Answer.Done n = accepted n
-outcome_by (Answer.Refused e) n = refused_as e
+-- ---- an answer by the number that is read off what was done
+abbrev pub outcome_by : {A : Type 0} → (A → ℕ) → Result A Refusal → Outcome
+outcome_by number (Ok a) = accepted (number a)
+outcome_by number (Err e) = refused_as e
 
-abbrev pub opened_outcome : Answer → Outcome
-opened_outcome a = outcome_by a 0
+abbrev pub outcome_of : Result ℕ Refusal → Outcome
+outcome_of a = outcome_by (λ n. n) a
+
+-- opening has no number
+abbrev pub opened_outcome : Result (Unit {0}) Refusal → Outcome
+opened_outcome a = outcome_by (λ _. 0) a
 
 -- ---- registration number; request number; approval index
-abbrev pub registered_outcome : Registered → Outcome
-registered_outcome (Registered.Gave p) = accepted p.registration_id.0
-registered_outcome (Registered.Refused e) = refused_as e
+abbrev pub registered_outcome : Result Principal Refusal → Outcome
+registered_outcome a = outcome_by (λ p. p.registration_id.0) a
 
-abbrev pub requested_outcome : Requested → Outcome
-requested_outcome r = outcome_by r.answer r.request.id.0
+abbrev pub requested_outcome : Result ActionRequest Refusal → Outcome
+requested_outcome a = outcome_by (λ r. r.id.0) a
 
-abbrev pub proved_outcome : Proved → Outcome
-proved_outcome r = outcome_by r.answer r.proof.approval_index
+abbrev pub proved_outcome : Result ApprovalProof Refusal → Outcome
+proved_outcome a = outcome_by (λ p. p.approval_index) a
 
 -- ---- a status by its place in the source's `RequestStatus`; a page's number of entries, beside its rows
 abbrev pub status_number : RequestStatus → ℕ
@@ -58,20 +55,15 @@ status_number Status.Approved = 1
 status_number Status.Rejected = 2
 status_number Status.Void = 3
 
-abbrev pub status_outcome : StatusAnswer → Outcome
-status_outcome (StatusAnswer.Is s) = accepted (status_number s)
-status_outcome (StatusAnswer.Refused e) = refused_as e
-
-abbrev pub paged_outcome : Paged → Outcome
-paged_outcome (Paged.Entries k) = accepted k
-paged_outcome (Paged.Refused e) = refused_as e
+abbrev pub status_outcome : Result RequestStatus Refusal → Outcome
+status_outcome a = outcome_by status_number a
 
 pub record PageTold : Type 0 where
   pub outcome : Outcome
   pub rows : List (List ℕ)
 
-abbrev pub page_told : PageOut → PageTold
-page_told p = record { outcome = paged_outcome p.answer; rows = p.rows }
+abbrev pub page_told : PageOut (List ℕ) → PageTold
+page_told p = record { outcome = outcome_of p.answer; rows = p.rows }
 
 -- ---- the proof of a request, if it has one, in twelve numbers and two keys: index, request, agent's account, registration and time, approver's, and where the text lies. Else they stay.
 -- The number is 1 where there is a proof, and 0 where there is none.
@@ -88,23 +80,20 @@ proof_row p x =
     ∷ p.approver_account_id.0 ∷ p.approver_registration_id.0 ∷ p.approved_at.height ∷ p.approved_at.timestamp_ns
     ∷ x.start ∷ x.len ∷ []
 
-abbrev pub proof_by : List ℕ → Bytes → Bytes → Extent → ProofAnswer → ApprovalProof → ProofTold
-proof_by row a b x ProofAnswer.Found p = record { outcome = accepted 1; row = proof_row p x; agent = p.agent_key; approver = p.approver_key }
-proof_by row a b x ProofAnswer.Nothing p = record { outcome = accepted 0; row = row; agent = a; approver = b }
-proof_by row a b x (ProofAnswer.Refused e) p = record { outcome = refused_as e; row = row; agent = a; approver = b }
-
-abbrev pub proof_told : List ℕ → Bytes → Bytes → Extent → Shown → ProofTold
-proof_told row a b x s = proof_by row a b x s.answer s.proof
+abbrev pub proof_told : List ℕ → Bytes → Bytes → Extent → Result (Option ApprovalProof) Refusal → ProofTold
+proof_told row a b x (Ok (Some p)) = record { outcome = accepted 1; row = proof_row p x; agent = p.agent_key; approver = p.approver_key }
+proof_told row a b x (Ok None) = record { outcome = accepted 0; row = row; agent = a; approver = b }
+proof_told row a b x (Err e) = record { outcome = refused_as e; row = row; agent = a; approver = b }
 
 -- ---- for each of two registrations whether it was revoked, 1 or 0, and when; six numbers, which stay where the read is refused
 pub record RowTold : Type 0 where
   pub outcome : Outcome
   pub row : List ℕ
 
-abbrev pub ended_cells : Revocation → List ℕ
-ended_cells Revocation.Nothing = 0 ∷ 0 ∷ 0 ∷ []
-ended_cells (Revocation.At t) = 1 ∷ t.height ∷ t.timestamp_ns ∷ []
+abbrev pub ended_cells : Option BlockTime → List ℕ
+ended_cells None = 0 ∷ 0 ∷ 0 ∷ []
+ended_cells (Some t) = 1 ∷ t.height ∷ t.timestamp_ns ∷ []
 
-abbrev pub revocations_told : List ℕ → RevocationsAnswer → RowTold
-revocations_told row (RevocationsAnswer.Are p) = record { outcome = accepted 0; row = ended_cells p.agent ++ ended_cells p.approver }
-revocations_told row (RevocationsAnswer.Refused e) = record { outcome = refused_as e; row = row }
+abbrev pub revocations_told : List ℕ → Result ProofRevocations Refusal → RowTold
+revocations_told row (Ok p) = record { outcome = accepted 0; row = ended_cells p.agent ++ ended_cells p.approver }
+revocations_told row (Err e) = record { outcome = refused_as e; row = row }

@@ -1,12 +1,12 @@
 // Opening and the five changes as entries: each is the ledger's own call, with its answer as an outcome.
 ghost use Rattle.std.specs.Prelude.{◌≡◌};
 ghost use Rattle.answers.specs.Does.{Does};
-ghost use Rattle.capi.specs.Entries.{OpensTold, add_entry, approve_entry, caller_of, reject_entry, request_entry, revoke_entry};
+ghost use Rattle.capi.specs.Entries.{OpensTold, add_entry, approve_entry, block_time, caller_of, reject_entry, request_entry, revoke_entry};
 ghost use Rattle.tables.specs.Tables.{tables};
 
-use crate::outcomes::{Outcome, of_answer, of_registered, refused};
+use crate::outcomes::Outcome;
 use ids::{Account, RequestId};
-use records::{BlockTime, Caller, Refusal};
+use records::{BlockTime, Caller, Role};
 
 #[unsafe(no_mangle)]
 pub extern "C" fn brasstally_open(
@@ -19,8 +19,7 @@ pub extern "C" fn brasstally_open(
         (tables book.old keys.old texts.old)
         (tables book.new keys.new texts.new) result }
 {
-    let answer = ledger::open(book, keys, texts, Account(owner));
-    of_answer(answer, 0)
+    Outcome::from(ledger::open(book, keys, texts, Account(owner)).map(|()| 0))
 }
 
 // Role 0 is Agent, 1 Approver; any other number is refused with 255, after 20.
@@ -39,26 +38,17 @@ pub extern "C" fn brasstally_add(
         (tables book.new keys.new texts.now) result }
 {
     if role > 1 {
-        if !soundness::is_sound(book, keys, texts) {
-            return refused(Refusal::Damaged);
-        }
-        return Outcome {
-            refusal: 255,
-            number: 0,
+        return match soundness::checked(book, keys, texts) {
+            Ok(_) => Outcome {
+                refusal: 255,
+                number: 0,
+            },
+            Err(why) => Outcome::from(Err(why)),
         };
     }
-    let known = records::role_by_number(role);
-    let key = *key;
-    let answer = ledger::add_principal(
-        book,
-        keys,
-        texts,
-        Account(caller),
-        key,
-        Account(account),
-        known,
-    );
-    of_registered(answer)
+    let (caller, account, role) = (Account(caller), Account(account), Role::from(role));
+    let added = ledger::add_principal(book, keys, texts, caller, *key, account, role);
+    Outcome::from(added.map(|p| p.registration_id.0))
 }
 
 #[unsafe(no_mangle)]
@@ -75,13 +65,19 @@ pub extern "C" fn brasstally_revoke(
         (tables book.old keys.old texts.now)
         (tables book.new keys.new texts.now) result }
 {
-    let time = BlockTime {
+    let time = time_at(height, timestamp);
+    let ended = ledger::revoke_key(book, keys, texts, Account(caller), *key, time);
+    Outcome::from(ended.map(|p| p.registration_id.0))
+}
+
+// When, from the numbers that a host gives.
+fn time_at(height: u64, timestamp: u64) -> BlockTime
+    ensures { result ≡ block_time height timestamp }
+{
+    BlockTime {
         height,
         timestamp_ns: timestamp,
-    };
-    let key = *key;
-    let answer = ledger::revoke_key(book, keys, texts, Account(caller), key, time);
-    of_registered(answer)
+    }
 }
 
 // Who calls, from the numbers and the key that a host gives.
@@ -112,13 +108,9 @@ pub extern "C" fn brasstally_request(
         (tables book.new keys.new texts.new) result }
 {
     let caller = signed(predecessor, signer, *key);
-    let time = BlockTime {
-        height,
-        timestamp_ns: timestamp,
-    };
+    let time = time_at(height, timestamp);
     let made = ledger::request_action(book, keys, texts, caller, text, time);
-    let answer = made.answer;
-    of_answer(answer, made.request.id.0)
+    Outcome::from(made.map(|r| r.id.0))
 }
 
 #[unsafe(no_mangle)]
@@ -139,13 +131,9 @@ pub extern "C" fn brasstally_approve(
         (tables book.new keys.new texts.new) result }
 {
     let caller = signed(predecessor, signer, *key);
-    let time = BlockTime {
-        height,
-        timestamp_ns: timestamp,
-    };
+    let time = time_at(height, timestamp);
     let made = ledger::approve(book, keys, texts, caller, RequestId(request), text, time);
-    let answer = made.answer;
-    of_answer(answer, made.proof.approval_index)
+    Outcome::from(made.map(|proof| proof.approval_index))
 }
 
 #[unsafe(no_mangle)]
@@ -165,11 +153,7 @@ pub extern "C" fn brasstally_reject(
         (tables book.new keys.new texts.new) result }
 {
     let caller = signed(predecessor, signer, *key);
-    let time = BlockTime {
-        height,
-        timestamp_ns: timestamp,
-    };
+    let time = time_at(height, timestamp);
     let made = ledger::reject(book, keys, texts, caller, RequestId(request), time);
-    let answer = made.answer;
-    of_answer(answer, made.request.id.0)
+    Outcome::from(made.map(|r| r.id.0))
 }

@@ -1,4 +1,5 @@
 // The ledger for programs in C and Rust: entry points on numbers, rows and bytes. Each answers for any arguments and any lent tables. For `host/`.
+// Tables, rows and keys are parameters of their own, numbers stand for roles and statuses: the C interface.
 #![tactic(auto)]
 
 mod changes;

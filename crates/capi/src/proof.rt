@@ -2,27 +2,23 @@
 ghost use Rattle.std.specs.Prelude.{◌≡◌, get_or};
 ghost use Rattle.answers.specs.Does.{Does};
 ghost use Rattle.capi.specs.Entries.{TextPlace, proof_entry, revocations_entry};
-ghost use Rattle.capi.specs.Outcomes.{ended_cells, proof_row};
-ghost use Rattle.tables.specs.Tables.{Standing, tables};
+ghost use Rattle.capi.specs.Outcomes.{ended_cells, outcome_of, proof_row};
+ghost use Rattle.tables.specs.Lent.{lent};
+ghost use Rattle.tables.specs.Tables.{tables};
 
-use crate::outcomes::{Outcome, refused};
-use answers::{ProofAnswer, RevocationsAnswer};
+use crate::outcomes::Outcome;
 use ids::{RegistrationId, RequestId};
-use records::{ApprovalProof, Refusal, Revocation};
+use records::{ApprovalProof, BlockTime, Refusal};
+use tables::Sound;
 
 // Where the text of an approved request lies: its start in the text table, and its length. Both are 0 for any other request.
-fn text_place(book: &[[u64; 6]], keys: &[[u8; 32]], texts: &[u8], request: u64) -> [u64; 2]
-    requires { Standing (tables book.now keys.now texts.now) }
-    ensures { TextPlace (tables book.now keys.now texts.now) request result }
+fn text_place(sound: &Sound<'_>, request: RequestId) -> [u64; 2]
+    ensures { TextPlace (lent sound.now) request.0 result }
 {
-    if request >= book[0][3] {
+    let Some(n) = ledger_reads::approved_at(sound, request) else {
         return [0, 0];
-    }
-    let n = request as usize;
-    if book[n + 321][0] != 1 {
-        return [0, 0];
-    }
-    let asked = book[n + 65];
+    };
+    let asked = sound.book[n + 65];
     [asked[2], asked[3]]
 }
 
@@ -45,6 +41,33 @@ fn numbers_of_proof(p: ApprovalProof, place: [u64; 2]) -> [u64; 12]
     ]
 }
 
+// What is lent, written; and the number, or the refusal.
+fn written<'a>(
+    book: &'a [[u64; 6]],
+    keys: &'a [[u8; 32]],
+    texts: &'a [u8],
+    request: u64,
+    row: &mut [u64; 12],
+    agent_key: &mut [u8; 32],
+    approver_key: &mut [u8; 32],
+) -> Result<u64, Refusal>
+    ensures { Does (proof_entry row.old agent_key.old approver_key.old request)
+        (tables book.now keys.now texts.now)
+        (tables book.now keys.now texts.now)
+        (record { outcome = outcome_of result; row = row.new; agent = agent_key.new; approver = approver_key.new }) }
+{
+    let sound = soundness::checked(book, keys, texts)?;
+    let request = RequestId(request);
+    let Some(proof) = ledger_reads::approval_sound(&sound, request)? else {
+        return Ok(0);
+    };
+    let (agent, approver) = (proof.agent_key, proof.approver_key);
+    *row = numbers_of_proof(proof, text_place(&sound, request));
+    *agent_key = agent;
+    *approver_key = approver;
+    Ok(1)
+}
+
 // The number is 1 if the request has a proof, else 0; without one, what is lent stays as it was.
 #[unsafe(no_mangle)]
 pub extern "C" fn brasstally_proof(
@@ -61,41 +84,16 @@ pub extern "C" fn brasstally_proof(
         (tables book.now keys.now texts.now)
         (record { outcome = result; row = row.new; agent = agent_key.new; approver = approver_key.new }) }
 {
-    if !soundness::is_sound(book, keys, texts) {
-        return refused(Refusal::Damaged);
-    }
-    let shown = ledger_reads::approval_sound(book, keys, texts, RequestId(request));
-    let answer = shown.answer;
-    match answer {
-        ProofAnswer::Found => {
-            let proof = shown.proof;
-            let agent = proof.agent_key;
-            let approver = proof.approver_key;
-            let place = text_place(book, keys, texts, request);
-            let numbers = numbers_of_proof(proof, place);
-            *row = numbers;
-            *agent_key = agent;
-            *approver_key = approver;
-            Outcome {
-                refusal: 0,
-                number: 1,
-            }
-        }
-        ProofAnswer::Nothing => Outcome {
-            refusal: 0,
-            number: 0,
-        },
-        ProofAnswer::Refused(why) => refused(why),
-    }
+    Outcome::from(written(book, keys, texts, request, row, agent_key, approver_key))
 }
 
 // Whether a registration was revoked, and when.
-fn cells_of_end(r: Revocation) -> [u64; 3]
-    ensures { result ≡ ended_cells r }
+fn cells_of_end(end: Option<BlockTime>) -> [u64; 3]
+    ensures { result ≡ ended_cells end }
 {
-    match r {
-        Revocation::Nothing => [0, 0, 0],
-        Revocation::At(t) => [1, t.height, t.timestamp_ns],
+    match end {
+        None => [0, 0, 0],
+        Some(t) => [1, t.height, t.timestamp_ns],
     }
 }
 
@@ -114,25 +112,13 @@ pub extern "C" fn brasstally_revocations(
         (tables book.now keys.now texts.now)
         (record { outcome = result; row = row.new }) }
 {
-    let answer = ledger::proof_revocations(
-        book,
-        keys,
-        texts,
-        RegistrationId(agent),
-        RegistrationId(approver),
-    );
-    match answer {
-        RevocationsAnswer::Are(both) => {
-            let first = both.agent;
-            let second = both.approver;
-            let a = cells_of_end(first);
-            let b = cells_of_end(second);
-            *row = [a[0], a[1], a[2], b[0], b[1], b[2]];
-            Outcome {
-                refusal: 0,
-                number: 0,
-            }
+    let (agent, approver) = (RegistrationId(agent), RegistrationId(approver));
+    match ledger::proof_revocations(book, keys, texts, agent, approver) {
+        Ok(both) => {
+            row[..3].copy_from_slice(&cells_of_end(both.agent));
+            row[3..].copy_from_slice(&cells_of_end(both.approver));
+            Outcome::from(Ok(0))
         }
-        RevocationsAnswer::Refused(why) => refused(why),
+        Err(why) => Outcome::from(Err(why)),
     }
 }

@@ -1,10 +1,20 @@
 // The reads as entries, and the check of the tables by itself. None changes a table.
+ghost use Rattle.std.specs.Prelude.{◌≡◌};
 ghost use Rattle.answers.specs.Does.{Does};
 ghost use Rattle.capi.specs.Entries.{Flags, page_entry, status_entry};
+ghost use Rattle.capi.specs.Outcomes.{status_number};
 ghost use Rattle.tables.specs.Tables.{Standing, tables};
 
-use crate::outcomes::{Outcome, of_page, of_status};
+use crate::outcomes::Outcome;
 use ids::RequestId;
+use records::RequestStatus;
+
+// A status by its place in `RequestStatus`.
+fn number_of_status(status: RequestStatus) -> u64
+    ensures { result ≡ status_number status }
+{
+    status as u64
+}
 
 #[unsafe(no_mangle)]
 pub extern "C" fn brasstally_status(
@@ -17,8 +27,8 @@ pub extern "C" fn brasstally_status(
         (tables book.now keys.now texts.now)
         (tables book.now keys.now texts.now) result }
 {
-    let answer = ledger::request_status(book, keys, texts, RequestId(request));
-    of_status(answer)
+    let read = ledger::request_status(book, keys, texts, RequestId(request));
+    Outcome::from(read.map(number_of_status))
 }
 
 #[unsafe(no_mangle)]
@@ -35,8 +45,7 @@ pub extern "C" fn brasstally_page(
         (tables book.now keys.now texts.now)
         (record { outcome = result; rows = rows.new }) }
 {
-    let answer = ledger::approvals_as_numbers(book, keys, texts, from, limit, rows);
-    of_page(answer)
+    Outcome::from(ledger::approvals_as_numbers(book, keys, texts, from, limit, rows))
 }
 
 // 1 if the tables hold a sound ledger, else 0.
@@ -44,8 +53,5 @@ pub extern "C" fn brasstally_page(
 pub extern "C" fn brasstally_is_sound(book: &[[u64; 6]], keys: &[[u8; 32]], texts: &[u8]) -> u64
     ensures { Flags result (Standing (tables book.now keys.now texts.now)) }
 {
-    if !soundness::is_sound(book, keys, texts) {
-        return 0;
-    }
-    1
+    u64::from(soundness::is_sound(book, keys, texts))
 }

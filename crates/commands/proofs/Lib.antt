@@ -1,11 +1,11 @@
 -- Laws of the command file.
-pub mod Contents
-pub mod Values
 pub mod Outer
-pub mod Telling
-pub mod Determined
+pub mod Takes
+pub mod Opened
 pub mod Progress
+pub mod Texts
 pub mod Written
 pub mod Example
 pub mod First
 pub mod Sizes
+pub mod Determined

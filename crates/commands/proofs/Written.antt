@@ -7,13 +7,12 @@ use Prim.Native.Nat.{ℕ, ◌+◌, ◌<◌, ◌≤◌, ◌^◌}
 use native.Mathlib.Omega.{arith}
 use lib.ListN.{length, drop, length-append}
 use lib.Seq.{take-append_seam, drop-append_seam, drop-drop}
-use borrow.Author.Tests.{ne_eqb, le-ltb}
 use Rattle.machine.specs.Types.{Bytes, add, revoke, approve, reject}
 use Rattle.machine.specs.Types as machine
 use Rattle.records.specs.declared.Caller.{Caller}
 use Rattle.records.specs.declared.BlockTime.{BlockTime}
-use Rattle.records.specs.declared.Role.{Role}
-use Rattle.records.specs.declared.Role.TheVariants.{Agent, Approver}
+use Rattle.records.specs.declared.role.Role.{Role}
+use Rattle.records.specs.declared.role.Role.TheVariants.{Agent, Approver}
 use Rattle.fields.specs.declared.field.Form.TheVariants.{Exactly}
 use Rattle.fields.specs.Numbers.{number, bytes_of}
 use Rattle.fields.specs.Reader.{got}
@@ -22,10 +21,10 @@ use Rattle.fields.specs.Fields.{number_field, time_field, role_field}
 use Rattle.fields.specs.Fields.{Kind, opening, adding, revoking, requesting, approving, rejecting, telling_status, telling_page, kind_tag, kind_of}
 use Rattle.field_values.specs.Groups.{caller, message}
 use Rattle.fields.proofs.Numbers.{written_read}
-use Rattle.fields.proofs.Rules as rule
+use Rattle.commands.proofs.Outer.{in_order}
 use Rattle.commands.specs.Writing.{tagged, number_written, key_written, role_written, time_written, text_written, caller_written, joined}
 use Rattle.commands.specs.Writing.{kind_written, fields_written, write_command, Long, Timely, Calling, Sizes, Writable}
-use Rattle.commands.specs.Commands.{Command, open_by, change, status_of, page_from, command, due, read_by, fields_of, contents, contents_of, read_outer}
+use Rattle.commands.specs.Commands.{Command, open_by, change, status_of, page_from, command, due, read_by, fields_of, contents, read_outer}
 
 -- ---- a tagged value before more bytes
 module _ (tag : ℕ) (v more : Bytes) (short : length v < 256 ^ 2) where
@@ -42,15 +41,18 @@ module _ (tag : ℕ) (v more : Bytes) (short : length v < 256 ^ 2) where
   room_back = omega (arith, length_back, length-append v more)
 
 -- ---- a field due
+field_found : (f : Field) (rest : Bytes) (place : ℕ) → known (tag_of rest) ≡ true → f.tag ≡ tag_of rest → 3 + length_of rest ≤ length rest
+    → wrong_length f.form (length_of rest) ≡ false → bad_role f.form (number (value_of rest)) ≡ false
+    → field f rest place ≡ got (value_of rest) (drop (3 + length_of rest) rest) (place + (3 + length_of rest))
+unfolding field
+field_found f rest place k t h w b = grind arith
+
 pub field_back : (f : Field) (v more : Bytes) (place : ℕ) → known f.tag ≡ true → length v < 256 ^ 2 → wrong_length f.form (length v) ≡ false → bad_role f.form (number v) ≡ false
     → field f (tagged f.tag v ++ more) place ≡ got v more (place + (3 + length v))
 field_back f v more place k s w b =
-    let rest = tagged f.tag v ++ more in
-    let room = room_back f.tag v more s in
     let n = length_back f.tag v more s in
-    rule.found f rest place
-    (rule.in_order f rest (omega arith) (rule.recognised rest (omega arith) k) refl room (rw n w) (rw (value_back f.tag v more s) b))
-    ∙ rw (value_back f.tag v more s, left_back f.tag v more s, n)
+    let e = value_back f.tag v more s in
+    field_found f (tagged f.tag v ++ more) place k refl (room_back f.tag v more s) (rw n w) (rw e b) ∙ rw (e, left_back f.tag v more s, n)
 
 -- ---- fields by what they hold
 pub number_back : (tag n : ℕ) (more : Bytes) (place : ℕ) → known tag ≡ true → Long n
@@ -132,12 +134,6 @@ known_kind rejecting = (refl, refl)
 known_kind telling_status = (refl, refl)
 known_kind telling_page = (refl, refl)
 
-outer_back : (is-first : Bool) (rest : Bytes) (place : ℕ) → known (tag_of rest) ≡ true → due is-first (tag_of rest) ≡ true → 3 + length_of rest ≤ length rest
-    → read_outer is-first rest place ≡ read_by (place + 3 + length_of rest) (contents_of (kind_of (tag_of rest)) (value_of rest) (place + 3))
-unfolding read_outer
-outer_back is-first rest place k d h =
-    rw (ne_eqb (length rest) 0 (λ z. omega arith), le-ltb (length rest) 3 (omega arith), k, d, le-ltb (length rest) (3 + length_of rest) h)
-
 pub command_back : (is-first : Bool) (c : Command) (more : Bytes) (place : ℕ) → Writable c → due is-first (kind_tag (kind_written c)) ≡ true
     → read_outer is-first (write_command c ++ more) place ≡ command c (place + length (write_command c))
 command_back is-first c more place w d =
@@ -146,6 +142,6 @@ command_back is-first c more place w d =
     let k = known_kind (kind_written c) in
     let n = length_back tag v more w.short in
     let ends : place + 3 + length_of (write_command c ++ more) ≡ place + length (write_command c) = omega arith in
-    outer_back is-first (write_command c ++ more) place k.0 d (room_back tag v more w.short)
+    in_order is-first (write_command c ++ more) place k.0 d (room_back tag v more w.short)
     ∙ rw (k.1, value_back tag v more w.short) (contents_back c w.sizes (place + 3) (place + 3 + length_of (write_command c ++ more)))
     ∙ ap (command c) ends

@@ -2,7 +2,7 @@
 use Rattle.std.specs.Prelude.{◌≡◌, List, [], ◌∷◌, ◌++◌, ℕ, ◌<◌, ◌^◌, length}
 use Rattle.records.specs.declared.BlockTime.{BlockTime}
 use Rattle.records.specs.declared.Caller.{Caller}
-use Rattle.records.specs.declared.Role.{Role}
+use Rattle.records.specs.declared.role.Role.{Role}
 use Rattle.records.specs.Roles.{role_number}
 use Rattle.machine.specs.Types.{Bytes, add, revoke, request, approve, reject}
 use Rattle.fields.specs.Numbers.{bytes_of}

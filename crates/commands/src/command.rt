@@ -1,47 +1,40 @@
-// A command as it is read. Its key stands beside it, and its text is told by its place in the input: no enum holds an array or a part.
-use fields::Fault;
+// A command as it is read, whole. Its text is the very part of the input.
 use ids::{Account, Key, RequestId};
-use records::{BlockTime, Role};
+use records::{BlockTime, Caller, Role};
 
-// The key added stands beside.
 #[derive(Clone, Copy)]
 pub struct AddCommand {
     pub caller: Account,
+    pub key: Key,
     pub account: Account,
     pub role: Role,
 }
 
-// The key revoked stands beside.
 #[derive(Clone, Copy)]
 pub struct RevokeCommand {
     pub caller: Account,
-    pub now: BlockTime,
-}
-
-// The signer's key stands beside; the text is `&input[text_start..text_start + text_len]`.
-#[derive(Clone, Copy)]
-pub struct RequestCommand {
-    pub predecessor: Account,
-    pub signer: Account,
-    pub text_start: usize,
-    pub text_len: usize,
+    pub key: Key,
     pub now: BlockTime,
 }
 
 #[derive(Clone, Copy)]
-pub struct ApproveCommand {
-    pub predecessor: Account,
-    pub signer: Account,
+pub struct RequestCommand<'a> {
+    pub caller: Caller,
+    pub text: &'a [u8],
+    pub now: BlockTime,
+}
+
+#[derive(Clone, Copy)]
+pub struct ApproveCommand<'a> {
+    pub caller: Caller,
     pub request: RequestId,
-    pub text_start: usize,
-    pub text_len: usize,
+    pub text: &'a [u8],
     pub now: BlockTime,
 }
 
 #[derive(Clone, Copy)]
 pub struct RejectCommand {
-    pub predecessor: Account,
-    pub signer: Account,
+    pub caller: Caller,
     pub request: RequestId,
     pub now: BlockTime,
 }
@@ -53,29 +46,13 @@ pub struct PageCommand {
 }
 
 #[derive(Clone, Copy)]
-pub enum Command {
+pub enum Command<'a> {
     Open(Account),
     Add(AddCommand),
     Revoke(RevokeCommand),
-    Request(RequestCommand),
-    Approve(ApproveCommand),
+    Request(RequestCommand<'a>),
+    Approve(ApproveCommand<'a>),
     Reject(RejectCommand),
     Status(RequestId),
     Page(PageCommand),
-}
-
-// What stands at a place of the input: a whole command, the end of the run, or a fault and its place.
-#[derive(Clone, Copy)]
-pub enum Step {
-    Command(Command),
-    End,
-    Stopped(Fault, usize),
-}
-
-// `key` is all zero where the step has none; `next` is where the next command starts, 0 where there is no command.
-#[derive(Clone, Copy)]
-pub struct Taken {
-    pub step: Step,
-    pub key: Key,
-    pub next: usize,
 }

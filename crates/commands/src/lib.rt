@@ -7,6 +7,5 @@ mod reader;
 
 pub use command::{
     AddCommand, ApproveCommand, Command, PageCommand, RejectCommand, RequestCommand, RevokeCommand,
-    Step, Taken,
 };
 pub use reader::{read_command, too_long};

@@ -1,117 +1,88 @@
 // The reader of one command: it lends the command's value, a middle part of the input, to the reader for its kind.
-ghost use Rattle.std.specs.Prelude.{◌≡◌, ◌≤◌};
-ghost use Rattle.fields.specs.Parts.{StartsAt};
-ghost use Rattle.commands.specs.Commands.{too_long};
-ghost use Rattle.commands.specs.Answers.{Kinded, Due, Valued, Reads, ended};
+ghost use Rattle.std.specs.Prelude.{◌≡◌, eqb};
+ghost use Rattle.fields.specs.Fields.{kind_of};
+ghost use Rattle.fields.specs.Parts.{Gives};
+ghost use Rattle.commands.specs.Commands.{contents_of, due, too_long};
+ghost use Rattle.commands.specs.Answers.{Reads, fields_by, meant};
 
-use crate::command::{Step, Taken};
+use crate::command::Command;
 use crate::kind::{
     read_add, read_approve, read_open, read_page, read_reject, read_request, read_revoke,
-    read_status, stopped,
+    read_status,
 };
-use fields::{Ending, Fault, Part, Stop, Tag, finish, part_at, tag_at};
+use fields::{Fault, Fields, Stop};
 
-// The fields of a command's value, by the command's tag.
-fn by_kind(tag: u8, value: &[u8], off: usize) -> Taken
-    requires starts_at { StartsAt value.now off }
-    requires le_tag { (1 ≤ tag) × (tag ≤ 8) }
-    ensures { Kinded tag value.now off result }
+// The fields of a command's value, by the command's tag: a `match`, as a table of readers would be no plainer. A tag that is no kind's has been stopped before.
+fn by_kind<'a>(tag: u8, r: &mut Fields<'a>) -> Result<Command<'a>, Stop>
+    ensures { Gives meant (fields_by (kind_of tag)) r.old r.new result }
 {
     match tag {
-        0x08 => read_open(value, off),
-        0x01 => read_add(value, off),
-        0x02 => read_revoke(value, off),
-        0x03 => read_request(value, off),
-        0x04 => read_approve(value, off),
-        0x05 => read_reject(value, off),
-        0x06 => read_status(value, off),
-        _ => read_page(value, off),
+        0x08 => read_open(r),
+        0x01 => read_add(r),
+        0x02 => read_revoke(r),
+        0x03 => read_request(r),
+        0x04 => read_approve(r),
+        0x05 => read_reject(r),
+        0x06 => read_status(r),
+        0x07 => read_page(r),
+        _ => Err(r.stop(Fault::UnknownField)),
     }
 }
 
 // A command's whole value: its fields, and nothing after the last.
-fn read_value(tag: u8, value: &[u8], off: usize) -> Taken
-    requires starts_at { StartsAt value.now off }
-    requires le_tag { (1 ≤ tag) × (tag ≤ 8) }
-    ensures { Valued tag value.now off result }
+#[tactic(auto, unfolding(crate::specs::Commands::contents))]
+fn read_value<'a>(tag: u8, r: &mut Fields<'a>) -> Result<Command<'a>, Stop>
+    ensures { Gives meant (contents_of (kind_of tag)) r.old r.new result }
 {
-    let read = by_kind(tag, value, off);
-    let step = read.step;
-    let command = match step {
-        Step::Command(command) => command,
-        Step::End => return read,
-        Step::Stopped(_, _) => return read,
-    };
-    let at = read.next;
-    match finish(value, off, at) {
-        Ending::Clean => {
-            let key = read.key;
-            Taken {
-                step: Step::Command(command),
-                key,
-                next: off + value.len(),
-            }
-        }
-        Ending::Stopped(why) => stopped(why),
-    }
+    let command = by_kind(tag, r)?;
+    r.finish()?;
+    Ok(command)
 }
 
 // Whether a tag may stand where a command starts: an open at the input's start, any other kind after it.
 fn is_due(at: usize, tag: u8) -> bool
-    ensures { Due at tag result }
+    ensures { result ≡ due (eqb at 0) tag }
 {
-    if at == 0 {
-        return tag == 0x08;
-    }
-    if tag == 0x00 {
-        return false;
-    }
-    tag < 0x08
-}
-
-fn at_end() -> Taken
-    ensures { result ≡ ended }
-{
-    Taken {
-        step: Step::End,
-        key: [0; 32],
-        next: 0,
+    match at {
+        0 => tag == 0x08,
+        _ => matches!(tag, 0x01..=0x07),
     }
 }
 
-// What stands at a place of the input; 0 is the first command's place, and a place past the end is the end.
-pub fn read_command(input: &[u8], at: usize) -> Taken
+// What stands at a place of the input: a command and where the next one starts, the end of the run, or a fault. 0 is the first command's place, and a place
+// past the end is the end.
+#[tactic(auto, unfolding(crate::specs::Commands::read_outer))]
+pub fn read_command(input: &[u8], at: usize) -> Result<Option<(Command<'_>, usize)>, Stop>
     ensures { Reads input.now at result }
 {
     if at >= input.len() {
         if at == 0 {
-            return stopped(Stop {
+            return Err(Stop {
                 fault: Fault::MissingField,
                 place: 0,
             });
         }
-        return at_end();
+        return Ok(None);
     }
-    let tag = match tag_at(input, 0, at) {
-        Tag::Is(tag) => tag,
-        Tag::Stopped(why) => return stopped(why),
+    let outer = Fields {
+        rest: &input[at..],
+        place: at,
     };
+    let tag = outer.tag()?;
     if !is_due(at, tag) {
-        return stopped(Stop {
-            fault: Fault::FieldOrder,
-            place: at,
-        });
+        return Err(outer.stop(Fault::FieldOrder));
     }
-    let span = match part_at(input, 0, at) {
-        Part::At(span) => span,
-        Part::Stopped(why) => return stopped(why),
+    let value = outer.part()?;
+    let mut inner = Fields {
+        rest: value,
+        place: at + 3,
     };
-    let start = span.start;
-    let end = span.end;
-    read_value(tag, &input[start..end], start)
+    let command = read_value(tag, &mut inner)?;
+    Ok(Some((command, at + 3 + value.len())))
 }
 
 // Whether an input is above the room.
+#[tactic(auto, unfolding(crate::specs::Commands::too_long))]
 pub fn too_long(input: &[u8]) -> bool
     ensures { result ≡ too_long input.now }
 {

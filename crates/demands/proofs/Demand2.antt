@@ -1,9 +1,8 @@
 -- Demand 2: opening gives a sound ledger and every call keeps it so, by the promise itself; and in tables that hold a sound ledger what the source's contracts leave open is
 -- closed: pending counts, log slots, registrations. Assumes nothing.
-use Rattle.std.proofs.Common.{◌↔◌, ◌⊎◌, ◌∙◌, ◌≡◌, ap, ◌<◌, ◌≤◌, ℕ, get_or, List}
+use Rattle.std.proofs.Common.{◌↔◌, ◌⊎◌, ◌∙◌, ◌≡◌, ap, ◌<◌, ◌≤◌, ℕ, get_or, List, Result}
 use mathlib.Core.Option.{some}
 use Rattle.answers.specs.Does.{Call, Does, Opens}
-use Rattle.answers.specs.declared.Answer.{Answer}
 use Rattle.lists.specs.Places.{At}
 use Rattle.lists.specs.Tallies.{tally_from}
 use Rattle.machine.proofs.Gaps.{InForce, Revoked, in_force_or_revoked, never_both, pending_exact, pending_few, slot_names, slot_one}
@@ -12,13 +11,14 @@ use Rattle.machine.specs.Reads.{pending_under}
 use Rattle.machine.specs.Rooms.{pending_limit}
 use Rattle.machine.specs.Sound.{slot}
 use Rattle.machine.specs.Types.{Holder, Ledger, Request}
+use Rattle.records.specs.declared.refusal.Refusal.{Refusal}
 use Rattle.tables.proofs.Laid.{Laid, laid}
 use Rattle.tables.proofs.Rows.{holder_row_lem, log_row_lem, made_is}
 use Rattle.tables.specs.Parts.{cell, holders, log, made}
 use Rattle.tables.specs.Tables.{Sized, Standing, Stands, Tables}
 
 -- opening, of tables of the right lengths, whatever they held
-pub opening_is_sound : {owner : ℕ} {t u : Tables} {r : Answer} → Opens owner t u r → Sized t → Stands u (opened owner)
+pub opening_is_sound : {owner : ℕ} {t u : Tables} {r : Result (Unit {0}) Refusal} → Opens owner t u r → Sized t → Stands u (opened owner)
 opening_is_sound o s = (o.opened_then s).1
 
 -- every call on tables that hold a sound ledger leaves tables that hold one: the machine's

@@ -1,16 +1,14 @@
 -- Demand 3: open tables for an owner, make any calls without opening again, let nothing else write the tables: the accepted changes determine the tables, and what the public reads
 -- answer is what they tell. Replaying them alone into other tables gives each the same answer and the same bytes. A walk by pages lists the log. Assumes nothing.
-use Rattle.std.proofs.Common.{◌↔◌, ◌≢◌, ◌∙◌, ◌≡◌, ap, refl, subst, sym, ◌<◌, ◌≤◌, ℕ, ltb, drop, get_or, length, take, take_at, Bool, cond, false, true, List, [], ◌++◌, ◌∷◌, map, arith}
+use Rattle.std.proofs.Common.{◌↔◌, ◌≢◌, ◌∙◌, ◌≡◌, ap, refl, subst, sym, ◌<◌, ◌≤◌, ℕ, drop, get_or, length, take, take_at, true, List, [], ◌++◌, ◌∷◌, map, Result, Ok}
 use lib.ListN.{get_elem?, length-map}
 use mathlib.Core.List.{map-append}
 use mathlib.Core.Option.{Option, some}
-use Rattle.answers.specs.Answers.{PageOut, entry_row, paged, status_answer}
+use Rattle.std.proofs.lemmas.List.{nil_from_length}
+use Rattle.answers.proofs.Pages.{page_filled}
+use Rattle.answers.specs.Answers.{PageOut, entry_row, status_answer}
 use Rattle.answers.specs.Calls.{page_call, revocations_call, status_call}
 use Rattle.answers.specs.Does.{Does, Opens}
-use Rattle.answers.specs.declared.Answer.{Answer}
-use Rattle.answers.specs.declared.Paged.{Paged}
-use Rattle.answers.specs.declared.RevocationsAnswer.{RevocationsAnswer}
-use Rattle.answers.specs.declared.StatusAnswer.{StatusAnswer}
 use Rattle.demands.proofs.Following.{Followed, follow, replay_heard}
 use Rattle.demands.specs.Runs.{Calls, Heard, accepted_heards}
 use Rattle.demands.specs.Walked.{Walked, a_page, not_yet}
@@ -28,12 +26,12 @@ use Rattle.ids.specs.declared.RequestId.{RequestId}
 use Rattle.lists.specs.Places.{At}
 use Rattle.lists.specs.Tallies.{tally}
 use Rattle.machine.specs.Machine.{opened, run}
-use Rattle.machine.specs.Plan.{Outcome, did, outcome, refused}
-use Rattle.machine.specs.Reads.{entries, page, page_into, revocation_by, status}
+use Rattle.machine.specs.Plan.{Outcome, did, refused}
+use Rattle.machine.specs.Reads.{entries, page, revocation_by, status}
 use Rattle.machine.specs.Types.{Change, Holder, Ledger}
 use Rattle.records.specs.declared.BlockTime.{BlockTime}
-use Rattle.records.specs.declared.PageEntry.{PageEntry}
-use Rattle.records.specs.declared.refusal.Refusal.TheVariants.{PageRoom}
+use Rattle.records.specs.declared.ProofRevocations.{ProofRevocations}
+use Rattle.records.specs.declared.refusal.Refusal.{Refusal}
 use Rattle.records.specs.declared.status.RequestStatus.{RequestStatus}
 use Rattle.tables.proofs.Laid.{laid}
 use Rattle.tables.proofs.Rows.{holder_row_lem, log_count_is, log_row_lem}
@@ -41,7 +39,7 @@ use Rattle.tables.specs.Parts.{cell, holders, log, log_count}
 use Rattle.tables.specs.Tables.{Sized, Stands, Tables, tables_of}
 
 -- tables t were opened for the owner, and then the calls were made: the changes cs with the answers hs, accepted or refused, led to the tables u
-module _ {owner : ℕ} {z t u : Tables} {r : Answer} {cs : List Change} {hs : List Heard} (o : Opens owner z t r) (s : Sized z) (calls : Calls t cs hs u) where
+module _ {owner : ℕ} {z t u : Tables} {r : Result (Unit {0}) Refusal} {cs : List Change} {hs : List Heard} (o : Opens owner z t r) (s : Sized z) (calls : Calls t cs hs u) where
   ran : Followed (opened owner) cs hs u
   ran = follow calls (opened owner) (o.opened_then s).1
 
@@ -50,18 +48,19 @@ module _ {owner : ℕ} {z t u : Tables} {r : Answer} {cs : List Change} {hs : Li
   tables_told = ran.stands_then.laid ∙ ap tables_of (sym (replay (opened owner) cs).same_ledger)
 
   -- ---- what the public reads answer of u
-  pub status_read : (n : RequestId) {v : Tables} {a : StatusAnswer} → Does (status_call n) u v a → (x : RequestStatus) → (status_told (accepted (opened owner) cs) n.0 ≡ some x) ↔ (a ≡ StatusAnswer.Is x)
+  pub status_read : (n : RequestId) {v : Tables} {a : Result RequestStatus Refusal} → Does (status_call n) u v a
+      → (x : RequestStatus) → (status_told (accepted (opened owner) cs) n.0 ≡ some x) ↔ (a ≡ Ok x)
   unfolding status_call
   status_read n {a = a} d x =
       let told = history_status owner cs n.0 in
       let said : a ≡ status_answer (status (run (opened owner) cs) n.0) = (d.sound _ ran.stands_then).0 in
       ((λ e. said ∙ is (status (run (opened owner) cs) n.0) (sym told ∙ e)), (λ e. told ∙ back (status (run (opened owner) cs) n.0) (sym said ∙ e)))
     where
-      is : (o : Outcome RequestStatus) → answer_of o ≡ some x → status_answer o ≡ StatusAnswer.Is x
+      is : (o : Outcome RequestStatus) → answer_of o ≡ some x → status_answer o ≡ Ok x
       is (refused e) q = cc
-      is (did y) q = let w : y ≡ x = cc in ap StatusAnswer.Is w
+      is (did y) q = let w : y ≡ x = cc in ap Ok w
 
-      back : (o : Outcome RequestStatus) → status_answer o ≡ StatusAnswer.Is x → answer_of o ≡ some x
+      back : (o : Outcome RequestStatus) → status_answer o ≡ Ok x → answer_of o ≡ some x
       back (refused e) q = cc
       back (did y) q = let w : y ≡ x = cc in ap some w
 
@@ -77,23 +76,24 @@ module _ {owner : ℕ} {z t u : Tables} {r : Answer} {cs : List Change} {hs : Li
   log_read_long = log_count_is ran.stands_then.sound (laid _ ran.stands_then.laid) ∙ ap length (sym (history_log owner cs))
 
   -- revocations
-  pub revocations_read : (a b : RegistrationId) {v : Tables} {q : RevocationsAnswer} → Does (revocations_call a b) u v q
-      → q ≡ RevocationsAnswer.Are (record { agent = revocation_by (get_elem? (revoked_told (accepted (opened owner) cs)) a.0); approver = revocation_by (get_elem? (revoked_told (accepted (opened owner) cs)) b.0) })
+  pub revocations_read : (a b : RegistrationId) {v : Tables} {q : Result ProofRevocations Refusal} → Does (revocations_call a b) u v q
+      → q ≡ Ok (record { agent = revocation_by (get_elem? (revoked_told (accepted (opened owner) cs)) a.0); approver = revocation_by (get_elem? (revoked_told (accepted (opened owner) cs)) b.0) })
   unfolding revocations_call
   revocations_read a b d =
       (d.sound _ ran.stands_then).0
-      ∙ ap (λ (l : List (Option BlockTime)). RevocationsAnswer.Are (record { agent = revocation_by (get_elem? l a.0); approver = revocation_by (get_elem? l b.0) })) (sym (history_revoked owner cs))
+      ∙ ap (λ (l : List (Option BlockTime)). Ok (record { agent = revocation_by (get_elem? l a.0); approver = revocation_by (get_elem? l b.0) })) (sym (history_revoked owner cs))
 
   -- ---- no request has two decisions, nor one by its agent's account
   pub one_decision_each : (n : ℕ) → tally (decides n) (accepted (opened owner) cs) ≤ 1
   one_decision_each = one_decision owner cs
 
-  pub decided_by_another : {i b n : ℕ} {c : Change} {x : Event ℕ} → At (accepted (opened owner) cs) i c → decider c ≡ some b → decides n c ≡ true → At (pick asker (accepted (opened owner) cs)) n x → b ≢ x.what
+  pub decided_by_another : {i b n : ℕ} {c : Change} {x : Event ℕ} → At (accepted (opened owner) cs) i c
+      → decider c ≡ some b → decides n c ≡ true → At (pick asker (accepted (opened owner) cs)) n x → b ≢ x.what
   decided_by_another = not_by_its_agent owner cs
 
   -- ---- Approved, Rejected and Void are final: what was read stays, whatever calls follow
-  pub final_read : (n : RequestId) (x : RequestStatus) → settled x ≡ true → {a : StatusAnswer} {v : Tables} → Does (status_call n) u v a → a ≡ StatusAnswer.Is x
-      → {w w' : Tables} {ds : List Change} {ks : List Heard} {b : StatusAnswer} → Calls u ds ks w → Does (status_call n) w w' b → b ≡ StatusAnswer.Is x
+  pub final_read : (n : RequestId) (x : RequestStatus) → settled x ≡ true → {a : Result RequestStatus Refusal} {v : Tables} → Does (status_call n) u v a → a ≡ Ok x
+      → {w w' : Tables} {ds : List Change} {ks : List Heard} {b : Result RequestStatus Refusal} → Calls u ds ks w → Does (status_call n) w w' b → b ≡ Ok x
   unfolding status_call
   final_read n x fin d e {ds = ds} more again =
       let L = run (opened owner) cs in
@@ -102,12 +102,13 @@ module _ {owner : ℕ} {z t u : Tables} {r : Answer} {cs : List Change} {hs : Li
       let then = follow more L st in
       (again.sound (run L ds) then.stands_then).0 ∙ ap status_answer (final_run x fin L st.sound n.0 here ds)
     where
-      was : (o : Outcome RequestStatus) → status_answer o ≡ StatusAnswer.Is x → o ≡ did x
+      was : (o : Outcome RequestStatus) → status_answer o ≡ Ok x → o ≡ did x
       was (refused e) q = cc
       was (did y) q = let w : y ≡ x = cc in ap did w
 
   -- ---- replay: the accepted changes alone, made on other tables opened for that owner
-  pub replay_read : {z' t' u' : Tables} {r' : Answer} {ks : List Heard} → Opens owner z' t' r' → Sized z' → Calls t' (accepted (opened owner) cs) ks u' → (u' ≡ u) × (ks ≡ accepted_heards (opened owner) cs)
+  pub replay_read : {z' t' u' : Tables} {r' : Result (Unit {0}) Refusal} {ks : List Heard}
+      → Opens owner z' t' r' → Sized z' → Calls t' (accepted (opened owner) cs) ks u' → (u' ≡ u) × (ks ≡ accepted_heards (opened owner) cs)
   replay_read o' s' again =
       let f = follow again (opened owner) (o'.opened_then s').1 in
       (f.stands_then.laid ∙ sym tables_told, f.heard_then ∙ replay_heard (opened owner) cs)
@@ -118,21 +119,14 @@ walk_more : (limit : ℕ) (w : Walk) (css : List (List Change)) (cs : List Chang
 walk_more limit w [] cs = refl
 walk_more limit w (ds ∷ css) cs = walk_more limit (record { ledger = run w.ledger ds; listed = w.listed ++ due limit w }) css cs
 
--- a page that was not refused is the machine's
-page_was : (L : Ledger) (room : List (List ℕ)) (start limit k : ℕ) (out : PageOut) → out ≡ paged room (outcome (page_into L start limit (length room))) → out.answer ≡ Paged.Entries k
+-- the rows of a page that was not refused
+page_rows : (rows₀ : List (List ℕ)) (start limit k : ℕ) {t u : Tables} {out : PageOut (List ℕ)} → Does (page_call entry_row rows₀ start limit) t u out → (L : Ledger) → Stands t L → out.answer ≡ Ok k
     → (k ≡ length (entries L start limit)) × (take k out.rows ≡ map entry_row (entries L start limit))
-page_was L room start limit k out e q = go (ltb (length room) (length (entries L start limit))) e
-  where
-    es : List PageEntry
-    es = entries L start limit
-
-    go : (b : Bool) → out ≡ paged room (cond b (refused PageRoom) (did es)) → (k ≡ length es) × (take k out.rows ≡ map entry_row es)
-    go true e = let z : Paged.Entries k ≡ Paged.Refused PageRoom = sym q ∙ ap (λ (x : PageOut). x.answer) e in cc
-    go false e =
-        let z : Paged.Entries k ≡ Paged.Entries (length es) = sym q ∙ ap (λ (x : PageOut). x.answer) e in
-        let n : k ≡ length es = cc in
-        let m : length (map entry_row es) ≡ k = length-map es entry_row ∙ sym n in
-        (n, ap (λ (x : PageOut). take k x.rows) e ∙ take_at (map entry_row es) (drop (length es) room) k m)
+page_rows rows₀ start limit k page L st answered =
+    let es = entries L start limit in
+    let was = page_filled entry_row rows₀ start limit page L st answered in
+    let long : length (map entry_row es) ≡ k = length-map es entry_row ∙ sym was.0 in
+    (was.0, ap (take k) was.1 ∙ take_at (map entry_row es) (drop (length es) rows₀) k long)
 
 pub record Walking (limit : ℕ) (L : Ledger) (css : List (List Change)) (read : List (List ℕ)) (u : Tables) : Type 0 where
   pub stands_there : Stands u (walk limit (setting_out L) css).ledger
@@ -146,7 +140,7 @@ walking {limit} (a_page {read} {css} {w = end} {out = out} {k = k} {cs = cs} roo
     let here = walk limit (setting_out L) css in
     let p = page.sound here.ledger w.stands_there in
     let from-there : length read ≡ length here.listed = ap length w.read_so ∙ length-map here.listed entry_row in
-    let was = page_was here.ledger room (length read) limit k out p.0 answered in
+    let was = page_rows room (length read) limit k page here.ledger w.stands_there answered in
     let f = follow calls here.ledger p.1 in
     let next = sym (walk_more limit (setting_out L) css cs) in
     record {
@@ -157,19 +151,14 @@ walking {limit} (a_page {read} {css} {w = end} {out = out} {k = k} {cs = cs} roo
     }
 
 -- A walk from slot 0, limit at least 1, up to the first empty page, has read the log as it then stands, each slot once
-pub walk_reads : {limit : ℕ} {t u v : Tables} {read : List (List ℕ)} {css : List (List Change)} {out : PageOut} (room : List (List ℕ)) → 0 < limit → (L : Ledger) → Stands t L → Walked limit t read css u
-    → Does (page_call room (length read) limit) u v out → out.answer ≡ Paged.Entries 0
+pub walk_reads : {limit : ℕ} {t u v : Tables} {read : List (List ℕ)} {css : List (List Change)} {out : PageOut (List ℕ)} (room : List (List ℕ))
+    → 0 < limit → (L : Ledger) → Stands t L → Walked limit t read css u
+    → Does (page_call entry_row room (length read) limit) u v out → out.answer ≡ Ok 0
     → Lists (walk limit (setting_out L) css) × Stands u (walk limit (setting_out L) css).ledger × (read ≡ map entry_row (walk limit (setting_out L) css).listed)
-unfolding page_call
 walk_reads {limit} {read = read} {css} {out} room some-limit L st walked page empty =
     let w = walking walked L st in
     let here = walk limit (setting_out L) css in
-    let p = page.sound here.ledger w.stands_there in
     let from-there : length read ≡ length here.listed = ap length w.read_so ∙ length-map here.listed entry_row in
-    let was = page_was here.ledger room (length read) limit 0 out p.0 empty in
-    let none-due : due limit here ≡ [] = nothing (due limit here) (was.0 ∙ ap (λ (n : ℕ). length (entries here.ledger n limit)) from-there) in
+    let was = page_rows room (length read) limit 0 page here.ledger w.stands_there empty in
+    let none-due : due limit here ≡ [] = nil_from_length (due limit here) (sym (was.0 ∙ ap (λ (n : ℕ). length (entries here.ledger n limit)) from-there)) in
     (walk_lists limit some-limit L st.sound css none-due, w.stands_there, w.read_so)
-  where
-    nothing : (es : List PageEntry) → 0 ≡ length es → es ≡ []
-    nothing [] e = refl
-    nothing (x ∷ es) e = absurd (omega arith)

@@ -1,15 +1,16 @@
 -- Tables follow the machine: after any calls on tables that hold a sound ledger they hold the machine's, and the answers were the machine's. Assumes nothing.
-use Rattle.std.proofs.Common.{◌∙◌, ◌≡◌, ap, refl, subst, sym, length, List, [], ◌++◌, ◌∷◌}
-use Rattle.answers.specs.Answers.{entered, paged, proved, registered, requested, shown, status_answer}
-use Rattle.answers.specs.Calls.{add_call, approval_call, approve_call, change_call, entries_call, page_call, read_call, reject_call, request_call, revocations_call, revoke_call, status_call}
+use Rattle.std.proofs.Common.{◌∙◌, ◌≡◌, ap, refl, subst, sym, length, List, [], ◌++◌, ◌∷◌, Ok}
+use Rattle.answers.specs.Answers.{as_is, entry_row, page_in, paged, proved, registered, requested, shown, status_answer}
+use Rattle.answers.specs.Calls.{add_call, approval_call, approve_call, change_call, page_call, page_in_call, read_call, reject_call, request_call, revocations_call, revoke_call, status_call}
 use Rattle.answers.specs.Does.{Does}
-use Rattle.answers.specs.declared.RevocationsAnswer.{RevocationsAnswer}
-use Rattle.demands.specs.Runs.{adds, revokes, requests, approves, rejects, Calls, Heard, Made, accepted_heards, asks_entries, asks_page, asks_proof, asks_revocations, asks_status, heard, heards, if_heard, none_yet, one_more, proved_as, registered_as, requested_as}
+use Rattle.demands.specs.Runs.{adds, revokes, requests, approves, rejects, asks_entries, asks_record, asks_page, asks_proof, asks_revocations, asks_status}
+use Rattle.demands.specs.Runs.{Calls, Heard, Made, accepted_heards, heard, heards, if_heard, none_yet, one_more, proved_as, registered_as, requested_as}
 use Rattle.history.specs.History.{accepted, if_accepted}
 use Rattle.machine.proofs.Keep.{left_giving}
 use Rattle.machine.specs.Machine.{Did, Given, action, add_to, approve_in, giving, left, principal, proof, reject_in, request_in, revoke_in, run, step}
 use Rattle.machine.specs.Plan.{Outcome, Plan, ◌>>=◌, did, outcome, refused}
 use Rattle.machine.specs.Reads.{approval, page_into, revocations, status}
+use Rattle.machine.specs.Rooms.{page_limit}
 use Rattle.machine.specs.Types.{Change, Ledger, add, approve, reject, request, revoke}
 use Rattle.tables.specs.Tables.{Stands, Tables}
 
@@ -31,7 +32,7 @@ follow_read : {A : Type 0} (bad : A) (tell : Ledger → A) {t u : Tables} {r : A
 follow_read bad tell d L st = record { stands_then = (d.sound L st).1; heard_then = refl }
 
 pub follow_one : {t u : Tables} {cs : List Change} {hs : List Heard} → Made t cs hs u → (L : Ledger) → Stands t L → Followed L cs hs u
-unfolding add_call revoke_call request_call approve_call reject_call status_call approval_call revocations_call entries_call page_call
+unfolding add_call revoke_call request_call approve_call reject_call status_call approval_call revocations_call page_call page_in_call
 follow_one (adds caller key who role d) L = follow_change registered_as registered principal (λ M. add_to M caller.0 key who.0 role) (add caller.0 key who.0 role) (λ M. refl) (λ M. refl) d L
 follow_one (revokes caller key now d) L = follow_change registered_as registered principal (λ M. revoke_in M caller.0 key now) (revoke caller.0 key now) (λ M. refl) (λ M. refl) d L
 follow_one (requests c text now d) L = follow_change requested_as requested action (λ M. request_in M c text now) (request c text now) (λ M. refl) (λ M. refl) d L
@@ -39,9 +40,10 @@ follow_one (approves c n text now d) L = follow_change proved_as proved proof (�
 follow_one (rejects c n now d) L = follow_change requested_as requested action (λ M. reject_in M c n.0 now) (reject c n.0 now) (λ M. refl) (λ M. refl) d L
 follow_one (asks_status n d) L = follow_read _ (λ M. status_answer (status M n.0)) d L
 follow_one (asks_proof n d) L = follow_read _ (λ M. shown (approval M n.0)) d L
-follow_one (asks_revocations a b d) L = follow_read _ (λ M. RevocationsAnswer.Are (revocations M a.0 b.0)) d L
-follow_one (asks_entries page start limit d) L = follow_read _ (λ M. entered page (outcome (page_into M start limit (length page)))) d L
-follow_one (asks_page rows start limit d) L = follow_read _ (λ M. paged rows (outcome (page_into M start limit (length rows)))) d L
+follow_one (asks_revocations a b d) L = follow_read _ (λ M. Ok (revocations M a.0 b.0)) d L
+follow_one (asks_entries page start limit d) L = follow_read _ (λ M. paged as_is page (outcome (page_into M start limit (length page)))) d L
+follow_one (asks_page rows start limit d) L = follow_read _ (λ M. paged entry_row rows (outcome (page_into M start limit (length rows)))) d L
+follow_one (asks_record start limit d) L = follow_read _ (λ M. page_in (outcome (page_into M start limit page_limit))) d L
 
 -- ---- any calls
 run_append : (L : Ledger) (cs ds : List Change) → run L (cs ++ ds) ≡ run (run L cs) ds

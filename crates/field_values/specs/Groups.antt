@@ -1,4 +1,5 @@
 -- Fields that stand together in several kinds: who calls, and a text with its time (document 01, 'Command file', the table). Assumes nothing.
+use Rattle.std.specs.Borrow.{Bor}
 use Rattle.records.specs.declared.BlockTime.{BlockTime}
 use Rattle.records.specs.declared.Caller.{Caller}
 use Rattle.machine.specs.Types.{Bytes}
@@ -24,3 +25,7 @@ message = do
   t ← field text
   now ← time_field
   done (record { text = t; now = now })
+
+-- as the code answers it: the very part of the value, and when
+abbrev pub noted : Bor Bytes × BlockTime → Message
+noted m = record { text = m.0.now; now = m.1 }

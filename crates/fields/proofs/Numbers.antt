@@ -1,7 +1,7 @@
 -- Numbers of any width, high byte first: how they grow by a byte, how large they are, and that reading undoes writing and writing reading. Assumes nothing.
 use mathlib.Core.Path.{◌≡◌, refl, sym, ap, ◌∙◌}
 use mathlib.Core.List.{[], ◌∷◌, ◌++◌}
-use Prim.Native.Nat.{ℕ, zero, suc, ◌+◌, ◌*◌, ◌/◌, ◌%◌, ◌<◌, ◌≤◌, ◌^◌}
+use Prim.Native.Nat.{ℕ, zero, suc, ◌+◌, ◌*◌, ◌/◌, ◌%◌, ◌<◌, ◌^◌}
 use native.Mathlib.Nat.{pow-suc, pow-le-pow_right}
 use native.Mathlib.Omega.{arith}
 use lib.ListN.{length, get_or, take}
@@ -25,16 +25,12 @@ number_next l i h = rw (take-suc l i 0 h) (number_more (take i l) (get_or l i 0)
 number_last : (k : ℕ) (l : Bytes) → length l ≡ suc k → number l ≡ number (take k l) * 256 + get_or l k 0
 number_last k l e = ap number (sym (take_all (suc k) l (omega arith))) ∙ number_next l k (omega arith)
 
-module _ (l : Bytes) (small : (i : ℕ) → get_or l i 0 < 256) where
-  -- the first k bytes make a number below 256 to the k
-  pub below : (k : ℕ) → k ≤ length l → number (take k l) < 256 ^ k
-  unfolding number
-  below zero h = omega arith
-  below (suc k) h = omega (arith, number_next l k h, below k (omega arith), small k, pow-suc 256 k)
+-- ---- how large a number of so many bytes is, so that a byte more fits below the eighth
+pub room : (n k : ℕ) → n < 256 ^ k → k < 8 → n < 2 ^ 56
+room n k h e = omega (arith, h, pow-le-pow_right {n = 256} (omega arith) {i = k} {j = 7} (omega arith))
 
-  -- so that a byte more fits, below the eighth
-  pub room : (k : ℕ) → k ≤ length l → k < 8 → number (take k l) < 2 ^ 56
-  room k h n = omega (arith, below k h, pow-le-pow_right {n = 256} (omega arith) {i = k} {j = 7} (omega arith))
+pub larger : (n k b : ℕ) → n < 256 ^ k → b < 256 → n * 256 + b < 256 ^ suc k
+larger n k b h e = omega (arith, h, pow-suc 256 k)
 
 -- the first bytes of bytes are bytes
 small_take : (k : ℕ) (l : Bytes) → ((i : ℕ) → get_or l i 0 < 256) → (i : ℕ) → get_or (take k l) i 0 < 256
@@ -64,3 +60,5 @@ read_written (suc k) l e small =
     (ap (λ (m : Bytes). m ++ b ∷ []) (read_written k (take k l) (length-take-le k l (omega arith)) (small_take k l small))
     ∙ sym (take-suc l k 0 (omega arith))
     ∙ take_all (suc k) l (omega arith))
+
+pub ruleset grows = (room, larger, number_next)

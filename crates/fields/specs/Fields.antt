@@ -4,7 +4,7 @@ use Rattle.std.proofs.Math.Option.{Option, none, some}
 use Rattle.machine.specs.Types.{Bytes}
 use Rattle.machine.specs.Tests.{present}
 use Rattle.records.specs.declared.BlockTime.{BlockTime}
-use Rattle.records.specs.declared.Role.{Role}
+use Rattle.records.specs.declared.role.Role.{Role}
 use Rattle.records.specs.Roles.{role_of}
 use Rattle.fields.specs.declared.fault.Fault.TheVariants.{MissingField, CutField, UnknownField, FieldOrder, FieldLength, BadRole}
 use Rattle.fields.specs.declared.field.Form.{Form}

@@ -1,10 +1,10 @@
 // Why a run stops, and document 01's name for it.
-ghost use Rattle.records.specs.Letters.{Says};
+ghost use Rattle.std.specs.Prelude.{◌≡◌, Some};
 ghost use Rattle.fields.specs.Faults.{fault_text};
 
-use records::Text;
+use std::fmt;
 
-#[derive(Clone, Copy)]
+#[derive(Clone, Copy, PartialEq, Eq)]
 pub enum Fault {
     MissingField,
     CutField,
@@ -15,44 +15,34 @@ pub enum Fault {
     InputTooLong,
 }
 
+impl Fault {
+    #[tactic(auto, unfolding(crate::specs::Faults::fault_text))]
+    pub fn name(self) -> &'static str
+        ensures { result.now ≡ fault_text self }
+    {
+        match self {
+            Fault::MissingField => "MissingField",
+            Fault::CutField => "CutField",
+            Fault::UnknownField => "UnknownField",
+            Fault::FieldOrder => "FieldOrder",
+            Fault::FieldLength => "FieldLength",
+            Fault::BadRole => "BadRole",
+            Fault::InputTooLong => "InputTooLong",
+        }
+    }
+}
+
+impl fmt::Display for Fault {
+    ghost output = { λ fault. Some (fault_text fault) };
+
+    fn fmt<W: fmt::Write>(&self, f: &mut fmt::Formatter<W>) -> fmt::Result {
+        f.write_str(self.name())
+    }
+}
+
 // A fault, and its place in the input.
-#[derive(Clone, Copy)]
+#[derive(Clone, Copy, PartialEq, Eq)]
 pub struct Stop {
     pub fault: Fault,
     pub place: usize,
-}
-
-pub fn fault_name(f: Fault) -> Text
-    ensures { Says result.bytes result.len (fault_text f) }
-{
-    match f {
-        Fault::MissingField => Text {
-            bytes: *b"MissingField                                    ",
-            len: 12,
-        },
-        Fault::CutField => Text {
-            bytes: *b"CutField                                        ",
-            len: 8,
-        },
-        Fault::UnknownField => Text {
-            bytes: *b"UnknownField                                    ",
-            len: 12,
-        },
-        Fault::FieldOrder => Text {
-            bytes: *b"FieldOrder                                      ",
-            len: 10,
-        },
-        Fault::FieldLength => Text {
-            bytes: *b"FieldLength                                     ",
-            len: 11,
-        },
-        Fault::BadRole => Text {
-            bytes: *b"BadRole                                         ",
-            len: 7,
-        },
-        Fault::InputTooLong => Text {
-            bytes: *b"InputTooLong                                    ",
-            len: 12,
-        },
-    }
 }

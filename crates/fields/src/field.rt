@@ -1,11 +1,18 @@
-// One tagged field of a value, by document 01's rules in their order. For the readers of the kinds. A value is lent with its offset in the input.
-ghost use Rattle.std.specs.Prelude.{◌≡◌, false, ◌+◌, ◌≤◌, length};
+// The fields of a value, read one after the other by document 01's rules in their order. For the readers of the kinds.
+ghost use Rattle.std.specs.Prelude.{◌≡◌, false, ◌+◌, ◌<◌, ◌≤◌, ◌^◌, length};
 ghost use Rattle.fields.specs.Numbers.{number};
-ghost use Rattle.fields.specs.Fields.{known, wrong_length, bad_role, ◌holds◌};
-ghost use Rattle.fields.specs.Parts.{Within, TagRead, PartRead, FieldRead, FinishRead};
+ghost use Rattle.fields.specs.Fields.{known, wrong_length, bad_role};
 
 use crate::fault::{Fault, Stop};
 use crate::number::number_in;
+
+// Whether a tag is a kind's or a field's.
+#[tactic(auto, unfolding(crate::specs::Fields::known))]
+fn is_known(tag: u8) -> bool
+    ensures { result ≡ known tag }
+{
+    matches!(tag, 0x01..=0x08 | 0x10..=0x13 | 0x15..=0x1A)
+}
 
 // What a field's value may be.
 #[derive(Clone, Copy)]
@@ -15,155 +22,112 @@ pub enum Form {
     RoleByte,
 }
 
-// From `start` up to, not including, `end`.
+impl Form {
+    // Rule six.
+    fn is_wrong_length(self, len: usize) -> bool
+        ensures { result ≡ wrong_length self len }
+    {
+        match self {
+            Form::Exactly(n) => len != n,
+            Form::AnyLength => false,
+            Form::RoleByte => len != 1,
+        }
+    }
+
+    // Rule seven.
+    fn is_bad_role(self, part: &[u8]) -> bool
+        requires { wrong_length self (length part.now) ≡ false }
+        ensures { result ≡ bad_role self (number part.now) }
+    {
+        match self {
+            Form::Exactly(_) | Form::AnyLength => false,
+            Form::RoleByte => number_in(part) > 1,
+        }
+    }
+}
+
+// The bytes left in the enclosing value, and the first one's place in the input; where none is left, the place of the value's end.
 #[derive(Clone, Copy)]
-pub struct Span {
-    pub start: usize,
-    pub end: usize,
+pub struct Fields<'a> {
+    pub rest: &'a [u8],
+    pub place: usize,
+    ghost fits: { place + length rest.now < 2 ^ 64 },
 }
 
-#[derive(Clone, Copy)]
-pub enum Part {
-    At(Span),
-    Stopped(Stop),
-}
+impl<'a> Fields<'a> {
+    ghost use Rattle.fields.specs.Fields.{◌holds◌, field, finish};
+    ghost use Rattle.fields.specs.Parts.{TagRead, PartRead, Gives, Sized, bytes};
 
-#[derive(Clone, Copy)]
-pub enum Tag {
-    Is(u8),
-    Stopped(Stop),
-}
+    // A fault here.
+    pub fn stop(&self, fault: Fault) -> Stop
+        ensures { result ≡ record { fault = fault; place = self.now.place } }
+    {
+        Stop {
+            fault,
+            place: self.place,
+        }
+    }
 
-#[derive(Clone, Copy)]
-pub enum Ending {
-    Clean,
-    Stopped(Stop),
-}
+    // The tag, by rules two and three.
+    pub fn tag(&self) -> Result<u8, Stop>
+        ensures { TagRead self.now result }
+    {
+        if self.rest.len() < 3 {
+            return Err(self.stop(Fault::CutField));
+        }
+        let tag = self.rest[0];
+        if !is_known(tag) {
+            return Err(self.stop(Fault::UnknownField));
+        }
+        Ok(tag)
+    }
 
-// Whether a tag is a kind's or a field's.
-#[tactic(auto, using(crate::proofs::Known::tags_known))]
-fn is_known(tag: u8) -> bool
-    ensures { result ≡ known tag }
-{
-    match tag {
-        0x01..=0x08 | 0x10..=0x13 | 0x15..=0x1A => true,
-        _ => false,
+    // The value, by rule five.
+    pub fn part(&self) -> Result<&'a [u8], Stop>
+        requires { 3 ≤ length self.now.rest.now }
+        ensures { PartRead self.now result }
+    {
+        let len = number_in(&self.rest[1..3]) as usize;
+        if self.rest.len() - 3 < len {
+            return Err(self.stop(Fault::CutField));
+        }
+        Ok(&self.rest[3..3 + len])
     }
-}
 
-// Rules two and three.
-pub fn tag_at(value: &[u8], off: usize, at: usize) -> Tag
-    requires { Within value.now off at }
-    ensures { TagRead value.now off at result }
-{
-    if value.len() - at < 3 {
-        return Tag::Stopped(Stop {
-            fault: Fault::CutField,
-            place: off + at,
-        });
+    // A field due: rules one to seven.
+    #[tactic(auto, unfolding(crate::specs::Fields::field))]
+    pub fn field(&mut self, due: u8, form: Form) -> Result<&'a [u8], Stop>
+        ensures reads { Gives bytes (field (due holds form)) self.old self.new result }
+        ensures sized { Sized form result }
+    {
+        if self.rest.is_empty() {
+            return Err(self.stop(Fault::MissingField));
+        }
+        if self.tag()? != due {
+            return Err(self.stop(Fault::FieldOrder));
+        }
+        let part = self.part()?;
+        if form.is_wrong_length(part.len()) {
+            return Err(self.stop(Fault::FieldLength));
+        }
+        if form.is_bad_role(part) {
+            return Err(self.stop(Fault::BadRole));
+        }
+        let taken = 3 + part.len();
+        self.rest = &self.rest[taken..];
+        self.place += taken;
+        Ok(part)
     }
-    if !is_known(value[at]) {
-        return Tag::Stopped(Stop {
-            fault: Fault::UnknownField,
-            place: off + at,
-        });
-    }
-    Tag::Is(value[at])
-}
 
-// Rule five.
-pub fn part_at(value: &[u8], off: usize, at: usize) -> Part
-    requires within { Within value.now off at }
-    requires at_in_bounds { at + 3 ≤ length value.now }
-    ensures { PartRead value.now off at result }
-{
-    let start = at + 3;
-    let len = number_in(&value[at + 1..start]) as usize;
-    if value.len() - start < len {
-        return Part::Stopped(Stop {
-            fault: Fault::CutField,
-            place: off + at,
-        });
-    }
-    Part::At(Span {
-        start,
-        end: start + len,
-    })
-}
-
-// Rule six.
-fn is_wrong_length(form: Form, len: usize) -> bool
-    ensures { result ≡ wrong_length form len }
-{
-    match form {
-        Form::Exactly(n) => len != n,
-        Form::AnyLength => false,
-        Form::RoleByte => len != 1,
-    }
-}
-
-// Rule seven.
-fn is_bad_role(form: Form, part: &[u8]) -> bool
-    requires { wrong_length form (length part.now) ≡ false }
-    ensures { result ≡ bad_role form (number part.now) }
-{
-    match form {
-        Form::Exactly(_) => false,
-        Form::AnyLength => false,
-        Form::RoleByte => number_in(part) > 1,
-    }
-}
-
-fn halt(fault: Fault, place: usize) -> Part
-    ensures { result ≡ Part.Stopped (record { fault = fault; place = place }) }
-{
-    Part::Stopped(Stop { fault, place })
-}
-
-// A field due: rules one to seven.
-pub fn field(value: &[u8], off: usize, at: usize, due: u8, form: Form) -> Part
-    requires { Within value.now off at }
-    ensures { FieldRead (due holds form) value.now off at result }
-{
-    let place = off + at;
-    if at == value.len() {
-        return halt(Fault::MissingField, place);
-    }
-    let tag = match tag_at(value, off, at) {
-        Tag::Is(tag) => tag,
-        Tag::Stopped(why) => return Part::Stopped(why),
-    };
-    if tag != due {
-        return halt(Fault::FieldOrder, place);
-    }
-    let span = match part_at(value, off, at) {
-        Part::At(span) => span,
-        Part::Stopped(why) => return Part::Stopped(why),
-    };
-    let start = span.start;
-    let end = span.end;
-    if is_wrong_length(form, end - start) {
-        return halt(Fault::FieldLength, place);
-    }
-    if is_bad_role(form, &value[start..end]) {
-        return halt(Fault::BadRole, place);
-    }
-    Part::At(span)
-}
-
-// What stands after the last field due: nothing, or a fault by rules two to four.
-pub fn finish(value: &[u8], off: usize, at: usize) -> Ending
-    requires { Within value.now off at }
-    ensures { FinishRead value.now off at result }
-{
-    if at == value.len() {
-        return Ending::Clean;
-    }
-    match tag_at(value, off, at) {
-        Tag::Stopped(why) => Ending::Stopped(why),
-        Tag::Is(_) => Ending::Stopped(Stop {
-            fault: Fault::FieldOrder,
-            place: off + at,
-        }),
+    // What stands after the last field due: nothing, or a fault by rules two to four.
+    #[tactic(auto, unfolding(crate::specs::Fields::finish))]
+    pub fn finish(&self) -> Result<(), Stop>
+        ensures { Gives (λ done. tt) finish self.now self.now result }
+    {
+        if self.rest.is_empty() {
+            return Ok(());
+        }
+        self.tag()?;
+        Err(self.stop(Fault::FieldOrder))
     }
 }

@@ -29,7 +29,7 @@ use Rattle.machine.specs.Tests.{Place, approved, asks, denying, granting, live, 
 use Rattle.machine.specs.Types.{Approved, Asked, Bytes, Change, Decision, Holder, Ledger, Registration, Rejected, Request, Undecided, add, approve, reject, request, revoke}
 use Rattle.records.specs.declared.BlockTime.{BlockTime}
 use Rattle.records.specs.declared.Caller.{Caller}
-use Rattle.records.specs.declared.Role.{Role}
+use Rattle.records.specs.declared.role.Role.{Role}
 
 -- of the requests by a registered key, those made before its latest add are those of another registration
 record Recent (h : List Change) (L : Ledger) : Type 0 where

@@ -26,7 +26,7 @@ use Rattle.machine.specs.Told.{no_verdict}
 use Rattle.machine.specs.Types.{Bytes, Change, Holder, Ledger, Rejected, Request, add, approve, reject, request, revoke}
 use Rattle.records.specs.declared.BlockTime.{BlockTime}
 use Rattle.records.specs.declared.Caller.{Caller}
-use Rattle.records.specs.declared.Role.TheVariants.{Agent}
+use Rattle.records.specs.declared.role.Role.TheVariants.{Agent}
 
 pub phi_bound : (L : Ledger) (k : Bytes) → phi L k ≤ pending_limit
 phi_bound L k = go (seek k L.keys)

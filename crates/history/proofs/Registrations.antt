@@ -22,7 +22,7 @@ use Rattle.machine.specs.Sound.{Sound}
 use Rattle.machine.specs.Tests.{Place, regs, same}
 use Rattle.machine.specs.Types.{Bytes, Change, Ledger, Registration, add, approve, reject, request, revoke}
 use Rattle.records.specs.declared.BlockTime.{BlockTime}
-use Rattle.records.specs.declared.Role.{Role}
+use Rattle.records.specs.declared.role.Role.{Role}
 
 or_none : (o : Option BlockTime) → or_else o none ≡ o
 or_none none = refl

@@ -29,7 +29,7 @@ use Rattle.machine.specs.Tests.{Place, Ruling, approved, asks, decided_so, denyi
 use Rattle.machine.specs.Types.{Approved, Asked, Bytes, Change, Decision, Ledger, Rejected, Request, Undecided, add, approve, reject, request, revoke}
 use Rattle.records.specs.declared.BlockTime.{BlockTime}
 use Rattle.records.specs.declared.Caller.{Caller}
-use Rattle.records.specs.declared.Role.{Role}
+use Rattle.records.specs.declared.role.Role.{Role}
 use Rattle.records.specs.declared.status.RequestStatus.{RequestStatus}
 use Rattle.records.specs.declared.status.RequestStatus.TheVariants as Status
 

@@ -20,7 +20,7 @@ use Rattle.machine.specs.Tests.{Place}
 use Rattle.machine.specs.Types.{Approved, Change, Decision, Ledger, Rejected, Request, Undecided, Verdict, add, approve, reject, request, revoke}
 use Rattle.records.specs.declared.BlockTime.{BlockTime}
 use Rattle.records.specs.declared.Caller.{Caller}
-use Rattle.records.specs.declared.Role.TheVariants.{Agent, Approver}
+use Rattle.records.specs.declared.role.Role.TheVariants.{Agent, Approver}
 
 tle_refl : (t : BlockTime) → Tle t t
 tle_refl t = omega arith

@@ -15,7 +15,7 @@ use Rattle.machine.specs.Told.{Texted}
 use Rattle.machine.specs.Types.{Approved, Bytes, Change, Holder, Ledger, Rejected, Request, Verdict, add, approve, reject, request, revoke}
 use Rattle.records.specs.declared.ApprovalProof.{ApprovalProof}
 use Rattle.records.specs.declared.BlockTime.{BlockTime}
-use Rattle.records.specs.declared.Role.TheVariants.{Agent}
+use Rattle.records.specs.declared.role.Role.TheVariants.{Agent}
 use Rattle.records.specs.declared.status.RequestStatus.TheVariants as Status
 
 -- ---- inv.rs

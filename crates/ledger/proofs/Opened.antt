@@ -1,17 +1,16 @@
 -- What opening writes is the empty ledger of its owner, and what it refuses is tables of wrong lengths. Assumes nothing.
-use mathlib.Core.Logic.{inl, inr}
+use mathlib.Core.Logic.{inl}
 use mathlib.Core.Path.{◌∙◌, ◌≡◌, ap, refl, sym}
 use Prim.Native.Nat.{ℕ}
-use lib.ListN.{length, replicate, replicate-append-replicate, set}
+use lib.ListN.{get_or, length, replicate, replicate-append-replicate, set}
 use mathlib.Core.List.{List, [], ◌++◌, ◌∷◌, append-nil}
-use Rattle.answers.specs.declared.Answer.TheVariants.{Done, Refused}
 use Rattle.answers.specs.Does.{Opens}
 use Rattle.machine.proofs.Keep.{sound_opened}
 use Rattle.machine.specs.Machine.{opened}
-use Rattle.records.specs.declared.refusal.Refusal.TheVariants.{Damaged}
 use Rattle.rows.proofs.Padded.{none_padded}
 use Rattle.rows.specs.Regions.{flat}
 use Rattle.rows.specs.Zeros.{zero_key, zero_row}
+use Rattle.std.proofs.Common.{Ok}
 use Rattle.tables.specs.Parts.{owner}
 use Rattle.tables.specs.Tables.{Sized, Tables, book_of, keys_of, tables, tables_of}
 
@@ -47,7 +46,7 @@ cleared owner =
 
 -- ---- the two ways to meet the promise
 pub opens : (owner : ℕ) {t : Tables} {b k : List (List ℕ)} {x : List ℕ} → Sized t → b ≡ replicate (length t.book) zero_row → k ≡ replicate (length t.keys) zero_key
-    → x ≡ replicate (length t.texts) 0 → Opens owner t (tables (set b 0 (owner ∷ 0 ∷ 0 ∷ 0 ∷ 0 ∷ 0 ∷ [])) k x) Done
+    → x ≡ replicate (length t.texts) 0 → Opens owner t (tables (set b 0 (set (get_or b 0 []) 0 owner)) k x) (Ok tt)
 opens owner {t} {b} {k} {x} s eb ek ex = record {
   opened_then = λ _. (refl, record { sound = sound_opened owner; laid = all_cleared ∙ cleared owner });
   unsized = λ n. absurd (n s);
@@ -63,8 +62,5 @@ opens owner {t} {b} {k} {x} s eb ek ex = record {
     texts : x ≡ replicate 32768 0
     texts = ex ∙ ap (λ (n : ℕ). replicate n 0) s.texts_long
 
-    all_cleared : tables (set b 0 (owner ∷ 0 ∷ 0 ∷ 0 ∷ 0 ∷ 0 ∷ [])) k x ≡ tables (set (replicate 1089 zero_row) 0 (owner ∷ 0 ∷ 0 ∷ 0 ∷ 0 ∷ 0 ∷ [])) (replicate 576 zero_key) (replicate 32768 0)
-    all_cleared = λ i. tables (set (book i) 0 (owner ∷ 0 ∷ 0 ∷ 0 ∷ 0 ∷ 0 ∷ [])) (keys i) (texts i)
-
-pub wrong_lengths : (owner : ℕ) {t : Tables} → (Sized t → ⊥) → Opens owner t t (Refused Damaged)
-wrong_lengths owner n = record { opened_then = λ s. absurd (n s); unsized = λ _. (refl, refl); known = inr n }
+    all_cleared : tables (set b 0 (set (get_or b 0 []) 0 owner)) k x ≡ tables (set (replicate 1089 zero_row) 0 (owner ∷ 0 ∷ 0 ∷ 0 ∷ 0 ∷ 0 ∷ [])) (replicate 576 zero_key) (replicate 32768 0)
+    all_cleared = λ i. tables (set (book i) 0 (set (get_or (book i) 0 []) 0 owner)) (keys i) (texts i)

@@ -1,11 +1,11 @@
-// The five changes: each is the check of the tables, and then its part.
+// The five changes: each is the check of the tables, and then its part; one function over the part would be no plainer than these two lines.
+// The tables stay three parameters here and in the reads: C lends each by itself, and adding and revoking lend the texts shared, so a struct of loans would ask more.
 ghost use Rattle.tables.specs.Tables.{tables};
 ghost use Rattle.answers.specs.Does.{Does};
 ghost use Rattle.answers.specs.Calls.{add_call, revoke_call, request_call, approve_call, reject_call};
 
-use answers::{Proved, Registered, Requested};
 use ids::{Account, Key, RequestId};
-use records::{BlockTime, Caller, Refusal, Role};
+use records::{ActionRequest, ApprovalProof, BlockTime, Caller, Principal, Refusal, Role};
 
 // Registers a key for an account: the owner alone may. Gives the registration.
 pub fn add_principal(
@@ -16,14 +16,12 @@ pub fn add_principal(
     key: Key,
     account: Account,
     role: Role,
-) -> Registered
+) -> Result<Principal, Refusal>
     ensures { Does (add_call caller key account role)
         (tables book.old keys.old texts.now)
         (tables book.new keys.new texts.now) result }
 {
-    if !soundness::is_sound(book, keys, texts) {
-        return Registered::Refused(Refusal::Damaged);
-    }
+    soundness::checked(book, keys, texts)?;
     ledger_keys::add_sound(book, keys, texts, caller, key, account, role)
 }
 
@@ -35,14 +33,12 @@ pub fn revoke_key(
     caller: Account,
     key: Key,
     time: BlockTime,
-) -> Registered
+) -> Result<Principal, Refusal>
     ensures { Does (revoke_call caller key time)
         (tables book.old keys.old texts.now)
         (tables book.new keys.new texts.now) result }
 {
-    if !soundness::is_sound(book, keys, texts) {
-        return Registered::Refused(Refusal::Damaged);
-    }
+    soundness::checked(book, keys, texts)?;
     ledger_revocations::revoke_sound(book, keys, texts, caller, key, time)
 }
 
@@ -54,14 +50,12 @@ pub fn request_action(
     caller: Caller,
     action: &[u8],
     time: BlockTime,
-) -> Requested
+) -> Result<ActionRequest, Refusal>
     ensures { Does (request_call caller action.now time)
         (tables book.old keys.old texts.old)
         (tables book.new keys.new texts.new) result }
 {
-    if !soundness::is_sound(book, keys, texts) {
-        return ledger_requests::request_refused(Refusal::Damaged);
-    }
+    soundness::checked(book, keys, texts)?;
     ledger_requests::request_sound(book, keys, texts, caller, action, time)
 }
 
@@ -74,14 +68,12 @@ pub fn approve(
     request: RequestId,
     action: &[u8],
     time: BlockTime,
-) -> Proved
+) -> Result<ApprovalProof, Refusal>
     ensures { Does (approve_call caller request action.now time)
         (tables book.old keys.old texts.old)
         (tables book.new keys.new texts.new) result }
 {
-    if !soundness::is_sound(book, keys, texts) {
-        return ledger_approvals::proof_refused(Refusal::Damaged);
-    }
+    soundness::checked(book, keys, texts)?;
     ledger_approvals::approve_sound(book, keys, texts, caller, request, action, time)
 }
 
@@ -93,13 +85,11 @@ pub fn reject(
     caller: Caller,
     request: RequestId,
     time: BlockTime,
-) -> Requested
+) -> Result<ActionRequest, Refusal>
     ensures { Does (reject_call caller request time)
         (tables book.old keys.old texts.old)
         (tables book.new keys.new texts.new) result }
 {
-    if !soundness::is_sound(book, keys, texts) {
-        return ledger_requests::request_refused(Refusal::Damaged);
-    }
+    soundness::checked(book, keys, texts)?;
     ledger_rejections::reject_sound(book, keys, texts, caller, request, time)
 }

@@ -1,4 +1,5 @@
 // THE PUBLIC LEDGER. Every function answers for any arguments and any lent tables, and demands nothing of its caller. For programs, hosts and whoever keeps a ledger.
+// The tables come as three slices, as C and every caller lend them: the check makes them one.
 #![tactic(auto)]
 
 mod change;

@@ -1,43 +1,13 @@
-// A page of the log, as records in a lent row, as a record that holds them, and as rows of plain numbers. None changes a table.
-ghost use Rattle.std.specs.Prelude.{◌≡◌};
-ghost use Rattle.answers.specs.Answers.{entry_count, no_entries};
-ghost use Rattle.answers.specs.Calls.{entries_call, page_call, told_call};
+// A page of the log, as records in a lent row, as a record that holds them, and as rows of plain numbers, for C. None changes a table.
+ghost use Rattle.answers.specs.Answers.{as_is, entry_row};
+ghost use Rattle.answers.specs.Calls.{page_call, page_in_call};
 ghost use Rattle.answers.specs.Does.{Does};
 ghost use Rattle.tables.specs.Tables.{tables};
 
-use answers::{Page, Paged};
+use answers::Page;
 use records::{PageEntry, Refusal};
 
-// The answer alone, for a row of `room` places.
-fn page_of(
-    book: &[[u64; 6]],
-    keys: &[[u8; 32]],
-    texts: &[u8],
-    from: u64,
-    limit: u64,
-    room: usize,
-) -> Paged
-    ensures { Does (told_call room from limit)
-        (tables book.now keys.now texts.now)
-        (tables book.now keys.now texts.now) result }
-{
-    if !soundness::is_sound(book, keys, texts) {
-        return Paged::Refused(Refusal::Damaged);
-    }
-    ledger_pages::page_room_sound(book, keys, texts, from, limit, room)
-}
-
-// How many entries an answer tells: none for a refusal.
-fn entries_of(answer: Paged) -> usize
-    ensures { result ≡ entry_count answer }
-{
-    match answer {
-        Paged::Entries(count) => count as usize,
-        Paged::Refused(_) => 0,
-    }
-}
-
-// The page, written to the front of `page`, whose other records stay.
+// The page, written to the front of `page`, whose other records stay. Answers how many entries it has.
 pub fn approvals(
     book: &[[u64; 6]],
     keys: &[[u8; 32]],
@@ -45,20 +15,14 @@ pub fn approvals(
     from: u64,
     limit: u64,
     page: &mut [PageEntry],
-) -> Paged
-    ensures { Does (entries_call page.old from limit)
+) -> Result<u64, Refusal>
+    ensures { Does (page_call as_is page.old from limit)
         (tables book.now keys.now texts.now)
         (tables book.now keys.now texts.now)
-        (record { answer = result; page = page.new }) }
+        (record { answer = result; rows = page.new }) }
 {
-    let answer = page_of(book, keys, texts, from, limit, page.len());
-    let count = entries_of(answer);
-    let mut k = 0;
-    while k < count {
-        page[k] = ledger_pages::entry_sound(book, keys, texts, from, k);
-        k += 1;
-    }
-    answer
+    let sound = soundness::checked(book, keys, texts)?;
+    ledger_pages::page_sound(&sound, from, limit, page)
 }
 
 // The page in a record of its own, whose other entries are all zero.
@@ -68,15 +32,14 @@ pub fn approvals_page(
     texts: &[u8],
     from: u64,
     limit: u64,
-) -> Page
-    ensures { Does (entries_call no_entries from limit)
+) -> Result<Page, Refusal>
+    ensures { Does (page_in_call from limit)
         (tables book.now keys.now texts.now)
-        (tables book.now keys.now texts.now)
-        (record { answer = result.answer; page = result.entries }) }
+        (tables book.now keys.now texts.now) result }
 {
-    let mut entries = [answers::no_entry(); 100];
-    let answer = approvals(book, keys, texts, from, limit, &mut entries);
-    Page { answer, entries }
+    let mut entries = [PageEntry::default(); 100];
+    let count = approvals(book, keys, texts, from, limit, &mut entries)?;
+    Ok(Page { count, entries })
 }
 
 // A page of the log, as rows of plain numbers at the front of `rows`: slot, request, both registrations, both times.
@@ -87,14 +50,12 @@ pub fn approvals_as_numbers(
     from: u64,
     limit: u64,
     rows: &mut [[u64; 8]],
-) -> Paged
-    ensures { Does (page_call rows.old from limit)
+) -> Result<u64, Refusal>
+    ensures { Does (page_call entry_row rows.old from limit)
         (tables book.now keys.now texts.now)
         (tables book.now keys.now texts.now)
         (record { answer = result; rows = rows.new }) }
 {
-    if !soundness::is_sound(book, keys, texts) {
-        return Paged::Refused(Refusal::Damaged);
-    }
-    ledger_pages::page_sound(book, keys, texts, from, limit, rows)
+    let sound = soundness::checked(book, keys, texts)?;
+    ledger_pages::page_sound(&sound, from, limit, rows)
 }

@@ -3,14 +3,13 @@ ghost use Rattle.answers.specs.Calls.{approve_call};
 ghost use Rattle.answers.specs.Does.{Part};
 ghost use Rattle.tables.specs.Tables.{Standing, tables};
 
-use crate::told::{proof_of, proof_refused};
-use answers::{Answer, Proved};
-use ids::RequestId;
-use ledger_callers::{Auth, authenticate};
+use crate::told::proof_of;
+use ids::{RegistrationId, RequestId};
+use ledger_callers::authenticate;
 use ledger_decisions::store::store;
-use ledger_requests::{Decidable, decidable_request};
-use records::{BlockTime, Caller, Refusal, Role};
-use rows::compare::same_bytes;
+use ledger_requests::decidable_request;
+use records::{Approval, ApprovalProof, BlockTime, Caller, Refusal, Role};
+use tables::Sound;
 
 // Document 01's 2, 3, 4, 5, 11, 12, 13, 14, 15, 16, in that order. The log has a slot for each request, so it is never full here.
 pub fn approve_sound(
@@ -21,48 +20,48 @@ pub fn approve_sound(
     request: RequestId,
     action: &[u8],
     time: BlockTime,
-) -> Proved
+) -> Result<ApprovalProof, Refusal>
     requires { Standing (tables book.old keys.old texts.old) }
     ensures { Part (approve_call caller request action.now time)
         (tables book.old keys.old texts.old)
         (tables book.new keys.new texts.new) result }
 {
-    let by = match authenticate(book, keys, texts, caller, Role::Approver) {
-        Auth::At(by) => by,
-        Auth::Refused(why) => return proof_refused(why),
-    };
-    let i = match decidable_request(book, keys, texts, request) {
-        Decidable::At(i) => i,
-        Decidable::Refused(why) => return proof_refused(why),
-    };
+    let sound = Sound { book, keys, texts };
+    let by = authenticate(&sound, caller, Role::Approver)?;
+    let i = decidable_request(&sound, request)?;
     let n = request.0 as usize;
     let asked = book[n + 65];
     let start = asked[2] as usize;
     let end = start + asked[3] as usize;
-    if !same_bytes(&texts[start..end], action) {
-        return proof_refused(Refusal::ActionMismatch);
+    if &texts[start..end] != action {
+        return Err(Refusal::ActionMismatch);
     }
     if caller.signer.0 == asked[0] {
-        return proof_refused(Refusal::SelfApproval);
+        return Err(Refusal::SelfApproval);
     }
     let mut head = book[0];
     let j = head[4];
     let key = caller.signer_key;
+    let number = book[by + 1][2];
     let decided = [
         1,
         j,
         caller.signer.0,
-        book[by + 1][2],
+        number,
         time.height,
         time.timestamp_ns,
     ];
-    let proof = proof_of(request, asked, keys[n + 64], decided, key);
+    let approval = Approval {
+        approval_index: j,
+        approver_account_id: caller.signer,
+        approver_key: key,
+        approver_registration_id: RegistrationId(number),
+        approved_at: time,
+    };
+    let agent_key = keys[n + 64];
     store(book, keys, n, i, decided, key);
     book[j as usize + 833] = [request.0, 0, 0, 0, 0, 0];
     head[4] = j + 1;
     book[0] = head;
-    Proved {
-        answer: Answer::Done,
-        proof,
-    }
+    Ok(proof_of(request, asked, agent_key, approval))
 }

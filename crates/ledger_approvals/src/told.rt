@@ -1,24 +1,22 @@
-// The proof of a request, as its rows and keys tell it; and the answer of a refusal.
+// The proof of a request, as its row, its agent's key and its approval tell it.
 ghost use Rattle.std.specs.Prelude.{◌≡◌};
-ghost use Rattle.answers.specs.Answers.{proved};
-ghost use Rattle.machine.specs.Plan.{refused};
 ghost use Rattle.ledger_approvals.specs.Recorded.{proof_told};
 
-use answers::{Answer, Proved};
 use ids::{Account, Key, RegistrationId, RequestId};
-use records::{ApprovalProof, BlockTime, Refusal};
+use records::{Approval, ApprovalProof, BlockTime};
 
-pub fn proof_of(
-    id: RequestId,
-    asked: [u64; 6],
-    agent_key: Key,
-    decided: [u64; 6],
-    approver_key: Key,
-) -> ApprovalProof
-    ensures { result ≡ proof_told id asked agent_key decided approver_key }
+pub fn proof_of(id: RequestId, asked: [u64; 6], agent_key: Key, approval: Approval) -> ApprovalProof
+    ensures { result ≡ proof_told id asked agent_key approval }
 {
+    let Approval {
+        approval_index,
+        approver_account_id,
+        approver_key,
+        approver_registration_id,
+        approved_at,
+    } = approval;
     ApprovalProof {
-        approval_index: decided[1],
+        approval_index,
         request_id: id,
         agent_account_id: Account(asked[0]),
         agent_key,
@@ -27,23 +25,9 @@ pub fn proof_of(
             height: asked[4],
             timestamp_ns: asked[5],
         },
-        approver_account_id: Account(decided[2]),
+        approver_account_id,
         approver_key,
-        approver_registration_id: RegistrationId(decided[3]),
-        approved_at: BlockTime {
-            height: decided[4],
-            timestamp_ns: decided[5],
-        },
-    }
-}
-
-// Beside a refusal the proof is all zero.
-pub fn proof_refused(why: Refusal) -> Proved
-    ensures { result ≡ proved (refused why) }
-{
-    let proof = answers::no_proof();
-    Proved {
-        answer: Answer::Refused(why),
-        proof,
+        approver_registration_id,
+        approved_at,
     }
 }

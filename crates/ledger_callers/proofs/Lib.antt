@@ -1,3 +1,2 @@
--- Laws of the cells of the head, and of authentication, as code reads them from the tables.
-pub mod Within
+-- Laws of authentication, as code reads it from the tables.
 pub mod Authentication

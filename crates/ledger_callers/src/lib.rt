@@ -1,45 +1,30 @@
-// Who may call, on tables that are given sound. For `ledger_requests` and the decisions.
+// Who may call, on tables that are known to be sound. For `ledger_requests` and the decisions.
 #![tactic(auto)]
 
 ghost use Rattle.ledger_callers.specs.Authenticates.{Authenticates};
-ghost use Rattle.tables.specs.Tables.{Standing, tables};
+ghost use Rattle.tables.specs.Lent.{lent};
 
 use records::{Caller, Refusal, Role};
-use rows::Found;
+use rows::search::find;
+use tables::Sound;
 
 // The place of the caller's key among the registered ones, or why it is refused.
-#[derive(Clone, Copy)]
-pub enum Auth {
-    At(usize),
-    Refused(Refusal),
-}
-
-pub fn authenticate(
-    book: &[[u64; 6]],
-    keys: &[[u8; 32]],
-    texts: &[u8],
-    caller: Caller,
-    role: Role,
-) -> Auth
-    requires { Standing (tables book.now keys.now texts.now) }
-    ensures { Authenticates (tables book.now keys.now texts.now) caller role result }
+pub fn authenticate(sound: &Sound<'_>, caller: Caller, role: Role) -> Result<usize, Refusal>
+    ensures { Authenticates (lent sound.now) caller role result }
 {
-    let signer = caller.signer.0;
-    if caller.predecessor.0 != signer {
-        return Auth::Refused(Refusal::IndirectCall);
+    if caller.predecessor != caller.signer {
+        return Err(Refusal::IndirectCall);
     }
-    let n = book[0][1] as usize;
-    let key = caller.signer_key;
-    let Found::At(i) = rows::search::find(keys, n, key) else {
-        return Auth::Refused(Refusal::UnknownKey);
+    let n = sound.book[0][1] as usize;
+    let Some(i) = find(sound.keys, n, caller.signer_key) else {
+        return Err(Refusal::UnknownKey);
     };
-    let wanted = records::number_of_role(role);
-    let holder = book[i + 1];
-    if holder[1] != wanted {
-        return Auth::Refused(Refusal::WrongRole);
+    let holder = sound.book[i + 1];
+    if holder[1] != u64::from(role) {
+        return Err(Refusal::WrongRole);
     }
-    if holder[0] != signer {
-        return Auth::Refused(Refusal::KeyAccountMismatch);
+    if holder[0] != caller.signer.0 {
+        return Err(Refusal::KeyAccountMismatch);
     }
-    Auth::At(i)
+    Ok(i)
 }

@@ -7,6 +7,7 @@ use native.Mathlib.Numerals.{add-one}
 use native.Mathlib.Omega.{arith}
 use Rattle.ledger_decisions.specs.Stores.{lowered, settled}
 use Rattle.ledger_requests.proofs.Cells.{place_in}
+use Rattle.ledger_requests.proofs.Laying.{pending_laid}
 use Rattle.lists.proofs.Getting.{map_set}
 use Rattle.lists.proofs.Places.{at_lt, length_snoc}
 use Rattle.lists.specs.Places.{At}
@@ -20,9 +21,8 @@ use Rattle.rows.proofs.Regions.{region_store}
 use Rattle.rows.specs.Padded.{padded}
 use Rattle.rows.specs.Regions.{Holds}
 use Rattle.rows.specs.Zeros.{zero_key, zero_row}
-use Rattle.tables.proofs.Indexed.{holder_index}
 use Rattle.tables.proofs.Laid.{book_lengths, key_lengths, laid}
-use Rattle.tables.proofs.Rows.{keys_room, requests_room}
+use Rattle.tables.proofs.Rows.{requests_room}
 use Rattle.tables.proofs.Stored.{book_holds, keys_holds, texts_hold}
 use Rattle.tables.specs.Tables.{Stands, Tables, agent_of, asked_rows, book_of, decided_key, decided_row, decision_of, decisions, head_row, holder_row, key_of, keys_of, log_row, revoked_row, words}
 
@@ -50,9 +50,7 @@ module _ {t : Tables} {L : Ledger} (st : Stands t L) {n i : ℕ} {r : Request} {
   holders_laid : set (padded 64 zero_row (map holder_row L.keys)) i (lowered (get_or t.book (i + 1) [])) ≡ padded 64 zero_row (map holder_row ruled.keys)
   holders_laid =
       let less : get_or (holder_row p) 4 0 - 1 ≡ pred p.pending = omega arith in
-      let row : lowered (get_or t.book (i + 1) []) ≡ holder_row q =
-      ap lowered (holder_index st hp (i + 1) (omega arith)) ∙ (λ j. p.reg.account ∷ get_or (holder_row p) 1 0 ∷ p.reg.number ∷ p.reg.active ∷ less j ∷ 0 ∷ []) in
-      ap (set (padded 64 zero_row (map holder_row L.keys)) i) row ∙ set_map 64 zero_row holder_row L.keys i q (at_lt hp) (keys_room st.sound (laid L st.laid))
+      pending_laid st hp lowered (pred p.pending) (λ j. p.reg.account ∷ get_or (holder_row p) 1 0 ∷ p.reg.number ∷ p.reg.active ∷ less j ∷ 0 ∷ [])
 
   -- a table of decisions
   decisions_laid : (z : List ℕ) (f : Decision → List ℕ) → set (padded request_room z (map f (decisions L))) n (f d) ≡ padded request_room z (map f (decisions ruled))

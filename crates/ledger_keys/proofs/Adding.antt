@@ -4,17 +4,17 @@ use Prim.Native.Nat.{◌+◌, ◌<◌, ◌≤◌, ℕ}
 use borrow.Author.Tests.{le-leb, lt-leb}
 use lib.Dec.{leb}
 use lib.ListN.{get_or, length, length-map, set}
-use mathlib.Core.Bool.{false}
+use mathlib.Core.Bool.{false, true}
 use mathlib.Core.List.{List, [], ◌∷◌, map}
 use mathlib.Core.Option.{none}
 use native.Mathlib.Omega.{arith}
+use Rattle.std.specs.Prelude.{Option, Some, None, Result, Ok, Err, is_some}
 use Rattle.answers.proofs.Doing.{part_did, part_refused}
 use Rattle.answers.specs.Answers.{registered}
 use Rattle.answers.specs.Calls.{add_call}
 use Rattle.answers.specs.Does.{Part}
-use Rattle.answers.specs.declared.Registered.{Registered}
 use Rattle.ids.specs.declared.Account.{Account}
-use Rattle.ledger_callers.proofs.Within.{Counts, counts, is_owner, no_owner}
+use Rattle.ledger_keys.proofs.Counted.{Counts, counts, is_owner, no_owner}
 use Rattle.ledger_keys.specs.Registrations.{principal_of_row}
 use Rattle.lists.proofs.Maps.{map_snoc}
 use Rattle.lists.proofs.Places.{length_snoc}
@@ -22,12 +22,13 @@ use Rattle.machine.proofs.Keep.{reg_of, sound_add}
 use Rattle.machine.specs.Machine.{Did, add_to, did_add, newly}
 use Rattle.machine.specs.Plan.{Plan}
 use Rattle.machine.specs.Rooms.{key_room, registration_room}
-use Rattle.machine.specs.Tests.{regs, seek}
+use Rattle.machine.specs.Tests.{present, regs, seek}
 use Rattle.machine.specs.Types.{Bytes, Holder, Ledger, Registration}
 use Rattle.records.proofs.Roles.{role_back}
 use Rattle.records.specs.Roles.{role_number}
 use Rattle.records.specs.declared.Principal.{Principal}
-use Rattle.records.specs.declared.Role.{Role}
+use Rattle.records.specs.declared.role.Role.{Role}
+use Rattle.records.specs.declared.refusal.Refusal.{Refusal}
 use Rattle.records.specs.declared.refusal.Refusal.TheVariants.{KeyAlreadyRegistered, KeysFull, LogFull, NotOwner}
 use Rattle.rows.proofs.Padded.{snoc_map, zero_padded}
 use Rattle.rows.proofs.Regions.{region_store}
@@ -38,7 +39,6 @@ use Rattle.tables.proofs.Seeks.{seek_found, seek_missing}
 use Rattle.tables.proofs.Stored.{book_holds, keys_holds, stored, texts_hold}
 use Rattle.tables.specs.Parts.{key_count, log_count, made, owner, request_count, text_used}
 use Rattle.tables.specs.Tables.{Stands, Tables, book_of, head_row, holder_row, key_of, keys_of, revoked_row, tables, tables_of}
-use Rattle.rows.specs.declared.Found.TheVariants as Found
 
 -- ---- what is stored: the holder's row and the head
 abbrev pub new_row : Tables → ℕ → ℕ → List ℕ
@@ -99,41 +99,44 @@ module _ (t : Tables) (caller : Account) (key : Bytes) (account : Account) (role
   abbrev planned : Ledger → Plan (Did Principal)
   planned L = add_to L caller.0 key account.0 role
 
-  abbrev Added : Tables → Registered → Type 0
+  abbrev Added : Tables → Result Principal Refusal → Type 0
   Added t' r = Part (add_call caller key account role) t t' r
 
-  pub not_owner : (caller.0 ≡ owner t → ⊥) → Added t (Registered.Refused NotOwner)
+  pub not_owner : (caller.0 ≡ owner t → ⊥) → Added t (Err NotOwner)
   unfolding add_call
   not_owner other = part_refused registered planned {t = t} NotOwner (λ L st. rw (no_owner st other))
 
-  module _ (own : caller.0 ≡ owner t) where
-    pub already : {i : ℕ} → Finds (key_count t) t.keys key (Found.At i) → Added t (Registered.Refused KeyAlreadyRegistered)
+  -- whether the lent keys are found to hold the key is whether it is registered
+  found : {L : Ledger} → Stands t L → (o : Option ℕ) → Finds (key_count t) t.keys key o → present (seek key L.keys) ≡ is_some o
+  found st None f = ap present (seek_missing st key (key_count t) refl f)
+  found st (Some i) f = ap present (seek_found st key (key_count t) i refl f).sought
+
+  module _ (own : caller.0 ≡ owner t) (o : Option ℕ) (f : Finds (key_count t) t.keys key o) where
+    pub already : is_some o ≡ true → Added t (Err KeyAlreadyRegistered)
     unfolding add_call
-    already {i} f = part_refused registered planned {t = t} KeyAlreadyRegistered (λ L st. rw (is_owner st own, (seek_found st key (key_count t) i refl f).sought))
+    already e = part_refused registered planned {t = t} KeyAlreadyRegistered (λ L st. rw (is_owner st own, found st o f, e))
 
-    module _ (new : Finds (key_count t) t.keys key Found.Nothing) where
-      is_new : {L : Ledger} → Stands t L → seek key L.keys ≡ none
-      is_new st = seek_missing st key (key_count t) refl new
-
-      pub log_full : registration_room ≤ made t → Added t (Registered.Refused LogFull)
+    module _ (new : is_some o ≡ false) where
+      pub log_full : registration_room ≤ made t → Added t (Err LogFull)
       unfolding add_call
-      log_full h = part_refused registered planned {t = t} LogFull (λ L st. rw (is_owner st own, is_new st, le-leb registration_room (length L.revoked) (omega (arith, counts st))))
+      log_full h = part_refused registered planned {t = t} LogFull (λ L st.
+          rw (is_owner st own, found st o f, new, le-leb registration_room (length L.revoked) (omega (arith, counts st))))
 
       module _ (life : made t < registration_room) where
         numbers_left : {L : Ledger} → Stands t L → leb registration_room (length L.revoked) ≡ false
         numbers_left {L} st = lt-leb registration_room (length L.revoked) (omega (arith, counts st))
 
-        pub keys_full : key_room ≤ key_count t → Added t (Registered.Refused KeysFull)
+        pub keys_full : key_room ≤ key_count t → Added t (Err KeysFull)
         unfolding add_call
         keys_full h = part_refused registered planned {t = t} KeysFull (λ L st.
-            rw (is_owner st own, is_new st, numbers_left st, le-leb key_room (length L.keys) (omega (arith, counts st))))
+            rw (is_owner st own, found st o f, new, numbers_left st, le-leb key_room (length L.keys) (omega (arith, counts st))))
 
         pub added : key_count t < key_room → {m : ℕ} → m ≡ role_number role → {r : Principal} → r ≡ principal_of_row (new_row t account.0 m)
-            → Added (stores t caller.0 key account.0 m) (Registered.Gave r)
+            → Added (stores t caller.0 key account.0 m) (Ok r)
         unfolding add_call
         added room e q = part_did registered planned {t = t} (λ L s. sound_add L s caller.0 key account.0 role) (λ L st. (
           did_add L key account.0 role,
-          rw (is_owner st own, is_new st, numbers_left st, lt-leb key_room (length L.keys) (omega (arith, counts st))),
+          rw (is_owner st own, found st o f, new, numbers_left st, lt-leb key_room (length L.keys) (omega (arith, counts st))),
           rw (q, e, role_back role, (counts st).made_n, (counts st).asked_n),
           rw e (added_laid st key account.0 role life room own),
         ))

@@ -5,17 +5,16 @@ use lib.ListN.{get_or}
 use mathlib.Core.List.{List, []}
 use mathlib.Core.Option.{none}
 use native.Mathlib.Omega.{arith}
+use Rattle.std.specs.Prelude.{Some, None}
 use Rattle.ledger_live.specs.Lives.{LivesAs}
-use Rattle.ledger_live.specs.declared.Live.{Live}
 use Rattle.lists.specs.Places.{At}
 use Rattle.machine.proofs.Look.{Lives, lives_back, lives_not}
 use Rattle.machine.specs.Tests.{live, live_under}
 use Rattle.machine.specs.Types.{Ledger, Request}
 use Rattle.records.proofs.Roles.{same_by_number}
 use Rattle.records.specs.Roles.{role_number}
-use Rattle.records.specs.declared.Role.TheVariants.{Agent}
+use Rattle.records.specs.declared.role.Role.TheVariants.{Agent}
 use Rattle.rows.specs.Finds.{Finds}
-use Rattle.rows.specs.declared.Found.{Found}
 use Rattle.tables.proofs.Indexed.{agent_index, asked_index, holder_index}
 use Rattle.tables.proofs.Seeks.{Sought, seek_found, seek_missing}
 use Rattle.tables.specs.Parts.{cell, key_count}
@@ -28,10 +27,10 @@ module _ {t : Tables} {L : Ledger} (st : Stands t L) {n : ℕ} {r : Request} (hr
   account_is : cell (n + 65) 0 t.book ≡ r.asked.account
   account_is = ap (λ (row : List ℕ). get_or row 0 0) (asked_index st hr (n + 65) (omega arith))
 
-  pub unregistered : Finds (key_count t) t.keys (get_or t.keys (n + 64) []) Found.Nothing → live L n r.asked ≡ none
+  pub unregistered : Finds (key_count t) t.keys (get_or t.keys (n + 64) []) None → live L n r.asked ≡ none
   unregistered f = ap (live_under n r.asked) (seek_missing st r.asked.key (key_count t) refl (rw key_is at f))
 
-  module _ (i : ℕ) (f : Finds (key_count t) t.keys (get_or t.keys (n + 64) []) (Found.At i)) where
+  module _ (i : ℕ) (f : Finds (key_count t) t.keys (get_or t.keys (n + 64) []) (Some i)) where
     found : Sought st r.asked.key i
     found = seek_found st r.asked.key (key_count t) i refl (rw key_is at f)
 
@@ -55,7 +54,7 @@ module _ {t : Tables} {L : Ledger} (st : Stands t L) {n : ℕ} {r : Request} (hr
     registered_since h = dead (λ l. omega (arith, cell_is 3, l.since))
 
     -- and all hold
-    pub alive : cell (i + 1) 1 t.book ≡ role_number Agent → cell (i + 1) 0 t.book ≡ cell (n + 65) 0 t.book → cell (i + 1) 3 t.book ≤ n → LivesAs L (live L n r.asked) (Live.At i)
+    pub alive : cell (i + 1) 1 t.book ≡ role_number Agent → cell (i + 1) 0 t.book ≡ cell (n + 65) 0 t.book → cell (i + 1) 3 t.book ≤ n → LivesAs L (live L n r.asked) (Some i)
     alive role account since =
         let l : Lives n r.asked found.holder.reg =
         record { agent = same_by_number _ _ (sym (cell_is 1) ∙ role); account = sym (cell_is 0) ∙ account ∙ account_is; since = omega (arith, cell_is 3) } in

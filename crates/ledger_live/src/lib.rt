@@ -2,40 +2,29 @@
 #![tactic(auto)]
 
 ghost use Rattle.std.specs.Prelude.{◌<◌};
-ghost use Rattle.tables.specs.Tables.{Standing, tables};
-ghost use Rattle.tables.specs.Parts.{request_count};
 ghost use Rattle.ledger_live.specs.Lives.{Lives};
+ghost use Rattle.tables.specs.Lent.{lent};
+ghost use Rattle.tables.specs.Parts.{request_count};
 
-use records::{Role, number_of_role};
-use rows::Found;
+use records::Role;
 use rows::search::find;
+use tables::Sound;
 
-// The place of the key that a request is live under.
-#[derive(Clone, Copy)]
-pub enum Live {
-    At(usize),
-    Nothing,
-}
-
-// The source's `live_agent_registration`, of request n: its key is registered, as an Agent's, for its account, since before it.
-pub fn live_agent_registration(book: &[[u64; 6]], keys: &[[u8; 32]], texts: &[u8], n: usize) -> Live
-    requires standing { Standing (tables book.now keys.now texts.now) }
-    requires n_bound { n < request_count (tables book.now keys.now texts.now) }
-    ensures { Lives (tables book.now keys.now texts.now) n result }
+// The source's `live_agent_registration`, of request n: the place of its key, if registered as an Agent's, for its account, since before it.
+pub fn live_agent_registration(sound: &Sound<'_>, n: usize) -> Option<usize>
+    requires { n < request_count (lent sound.now) }
+    ensures { Lives (lent sound.now) n result }
 {
-    let key = keys[n + 64];
-    let Found::At(i) = find(keys, book[0][1] as usize, key) else {
-        return Live::Nothing;
-    };
-    let holder = book[i + 1];
-    if holder[1] != number_of_role(Role::Agent) {
-        return Live::Nothing;
+    let i = find(sound.keys, sound.book[0][1] as usize, sound.keys[n + 64])?;
+    let holder = sound.book[i + 1];
+    if holder[1] != u64::from(Role::Agent) {
+        return None;
     }
-    if holder[0] != book[n + 65][0] {
-        return Live::Nothing;
+    if holder[0] != sound.book[n + 65][0] {
+        return None;
     }
     if holder[3] > n as u64 {
-        return Live::Nothing;
+        return None;
     }
-    Live::At(i)
+    Some(i)
 }

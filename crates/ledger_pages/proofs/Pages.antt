@@ -1,16 +1,17 @@
--- A page as code writes it, as numbers or as records: how many entries, what each place of a lent row gets, and the whole. Assumes nothing.
+-- A page as code writes it: how many entries, what each place of a lent row gets, and the whole. Assumes nothing.
 use mathlib.Core.Path.{◌∙◌, ◌≡◌, ap, sym}
 use Prim.Native.Nat.{◌+◌, ◌-◌, ◌<◌, ◌≤◌, min, ℕ}
 use borrow.Author.Tests.{le-ltb, lt-ltb}
-use lib.ListN.{drop, get_or, length, length-drop, length-map, length-take, set}
-use lib.Seq.{take_all}
-use mathlib.Core.List.{List, [], ◌++◌, map}
+use lib.ListN.{drop, length, length-drop, length-map, length-take, set, take}
+use lib.Seq.{take-suc, take_all}
+use mathlib.Core.List.{List, [], ◌++◌, ◌∷◌, map}
+use native.Mathlib.Numerals.{add-one}
 use native.Mathlib.Omega.{arith}
-use Rattle.answers.specs.Answers.{entry_row, page_told, paged}
-use Rattle.ledger_pages.specs.Pages.{SlotAs, size_of_page}
+use Rattle.answers.specs.Answers.{paged}
+use Rattle.ledger_pages.specs.Pages.{SlotEntry, size_of_page}
 use Rattle.lists.proofs.Getting.{get_d_of_at}
 use Rattle.lists.proofs.Maps.{at_map}
-use Rattle.lists.proofs.Places.{at_below, at_drop, at_take}
+use Rattle.lists.proofs.Places.{at_below, at_drop, at_lt, at_take}
 use Rattle.lists.specs.Places.{At}
 use Rattle.machine.proofs.Pages.{page_entry, page_long, page_requests}
 use Rattle.machine.proofs.Plans.{goes_on, stops}
@@ -20,12 +21,12 @@ use Rattle.machine.specs.Rooms.{largest, page_limit}
 use Rattle.machine.specs.Types.{Ledger}
 use Rattle.records.specs.declared.PageEntry.{PageEntry}
 use Rattle.records.specs.declared.refusal.Refusal.TheVariants.{PageRoom}
-use Rattle.rows.proofs.Written.{over, over_more}
+use Rattle.std.proofs.Common.{Ok}
+use Rattle.std.proofs.lemmas.List.{take_more_set}
 use Rattle.tables.proofs.Laid.{laid}
 use Rattle.tables.proofs.Rows.{log_count_is}
 use Rattle.tables.specs.Parts.{log_count}
 use Rattle.tables.specs.Tables.{Stands, Tables}
-use Rattle.answers.specs.declared.Paged.TheVariants as Paged
 
 abbrev request_of_entry : PageEntry → ℕ
 request_of_entry e = e.request_id.0
@@ -34,8 +35,14 @@ request_of_entry e = e.request_id.0
 within : (m x from : ℕ) → min (min m x - from) (m - from) ≡ min m x - from
 within m x from = omega arith
 
+-- one more place of a row holds what the list has there
+pub written_more : {A : Type 0} (row xs : List A) (k : ℕ) (v : A) → k < length row → At xs k v → take k row ≡ take k xs → take (k + 1) (set row k v) ≡ take (k + 1) xs
+written_more {A = A} row xs k v h a q =
+    take_more_set row k v h ∙ ap (λ (l : List A). l ++ v ∷ []) q
+    ∙ sym (rw add-one (take-suc xs k v (at_lt a) ∙ ap (λ (x : A). take k xs ++ x ∷ []) (get_d_of_at v a)))
+
 module _ {t : Tables} {L : Ledger} (st : Stands t L) (from limit : ℕ) where
-  pub size_is : size_of_page (log_count t) from limit ≡ length (entries L from limit)
+  size_is : size_of_page (log_count t) from limit ≡ length (entries L from limit)
   size_is =
       ap (λ (c : ℕ). size_of_page c from limit) (log_count_is st.sound (laid L st.laid))
       ∙ sym (
@@ -45,47 +52,26 @@ module _ {t : Tables} {L : Ledger} (st : Stands t L) (from limit : ℕ) where
       ∙ within (length L.log) (min (from + min limit page_limit) largest) from
       )
 
-  -- a row of fewer places than the page has entries, and one of enough
-  pub no_room : (room : ℕ) → room < size_of_page (log_count t) from limit → outcome (page_into L from limit room) ≡ refused PageRoom
-  no_room room h = stops PageRoom (done (entries L from limit)) (lt-ltb room (length (entries L from limit)) (omega (arith, size_is)))
+  module _ (size : ℕ) (e : size ≡ size_of_page (log_count t) from limit) where
+    -- a row of fewer places than the page has entries
+    pub no_room : (room : ℕ) → room < size → outcome (page_into L from limit room) ≡ refused PageRoom
+    no_room room h = stops PageRoom (done (entries L from limit)) (lt-ltb room (length (entries L from limit)) (omega (arith, size_is)))
 
-  pub has_room : (room : ℕ) → size_of_page (log_count t) from limit ≤ room → outcome (page_into L from limit room) ≡ did (entries L from limit)
-  has_room room h = goes_on PageRoom (done (entries L from limit)) (le-ltb room (length (entries L from limit)) (omega (arith, size_is)))
-
-  -- the answer alone, of a page that the row has room for
-  pub page_counted : (room size : ℕ) → size ≡ size_of_page (log_count t) from limit → size ≤ room → Paged.Entries size ≡ page_told (outcome (page_into L from limit room))
-  page_counted room size e h = ap Paged.Entries (e ∙ size_is) ∙ ap page_told (sym (has_room room (omega arith)))
-
-  -- ---- a lent row, with what f makes of the first k entries in front
-  module _ {A : Type 0} (f : PageEntry → A) (none : A) where
     -- slot from + k is entry k
-    row_is : (k : ℕ) (r : A) → k < size_of_page (log_count t) from limit → SlotAs f t (from + k) r → r ≡ get_or (map f (entries L from limit)) k none
-    row_is k r h s =
+    pub entry_there : (k : ℕ) (x : PageEntry) → k < size → SlotEntry t (from + k) x → At (entries L from limit) k x
+    entry_there k x h s =
         let (e, he) = at_below (entries L from limit) k (omega (arith, size_is)) in
         let (p, there, is) = page_entry L st.sound from limit he in
         let named : At (page L from limit) k e.request_id.0 = rw (page_requests L st.sound from limit) at (at_map request_of_entry he) in
         let slot = at_drop from L.log (at_take (page_end L from limit - from) (drop from L.log) named) in
-        s.shows st slot there ∙ ap f (sym is) ∙ sym (get_d_of_at none (at_map f he))
+        rw (s.shows st slot there ∙ sym is) he
 
-    -- one more
-    pub page_more : (rows₀ rows : List A) (k size : ℕ) → rows ≡ over rows₀ k (map f (entries L from limit)) → size ≡ size_of_page (log_count t) from limit
-        → (r : A) → SlotAs f t (from + k) r → k < size → k < length rows₀ → set rows k r ≡ over rows₀ (k + 1) (map f (entries L from limit))
-    page_more rows₀ rows k size q e r s h room =
-        let es = map f (entries L from limit) in
-        over_more rows₀ rows es k r none room (omega (arith, size_is, length-map (entries L from limit) f)) (row_is k r (omega arith) s) q
-
-    -- all
-    pub page_full : (rows₀ rows : List A) (k size : ℕ) → rows ≡ over rows₀ k (map f (entries L from limit)) → size ≡ size_of_page (log_count t) from limit
-        → k ≡ size → rows ≡ map f (entries L from limit) ++ drop (length (entries L from limit)) rows₀
-    page_full rows₀ rows k size q e all =
+    -- the whole page is written
+    pub page_written : {A : Type 0} (f : PageEntry → A) (rows row : List A) (k : ℕ) → size ≤ length rows → length row ≡ size → k ≡ size → take k row ≡ take k (map f (entries L from limit))
+        → record { answer = Ok size; rows = row ++ drop size rows } ≡ paged f rows (outcome (page_into L from limit (length rows)))
+    page_written f rows row k room long all q =
         let es = entries L from limit in
-        let long : k ≡ length es = omega (arith, size_is) in
-        q ∙ rw (take_all k (map f es) (omega (arith, length-map es f)), long)
-
-  -- the page of numbers is written
-  pub page_written : (rows₀ rows : List (List ℕ)) (k size : ℕ) → rows ≡ over rows₀ k (map entry_row (entries L from limit)) → size ≡ size_of_page (log_count t) from limit
-      → k ≡ size → size ≤ length rows₀ → record { answer = Paged.Entries size; rows = rows } ≡ paged rows₀ (outcome (page_into L from limit (length rows₀)))
-  page_written rows₀ rows k size q e all room =
-      let count : size ≡ length (entries L from limit) = omega (arith, size_is) in
-      let whole = page_full entry_row [] rows₀ rows k size q e all in
-      (λ i. record { answer = Paged.Entries (count i); rows = whole i }) ∙ ap (paged rows₀) (sym (has_room (length rows₀) (omega arith)))
+        let count : size ≡ length es = omega (arith, size_is) in
+        let whole : row ≡ map f es = sym (take_all k row (omega arith)) ∙ q ∙ take_all k (map f es) (omega (arith, length-map es f)) in
+        let told : outcome (page_into L from limit (length rows)) ≡ did es = goes_on PageRoom (done es) (le-ltb (length rows) (length es) (omega arith)) in
+        rw told (λ i. record { answer = Ok (count i); rows = whole i ++ drop (count i) rows })

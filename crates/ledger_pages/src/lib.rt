@@ -3,4 +3,4 @@
 
 mod page;
 
-pub use page::{entry_sound, page_room_sound, page_sound};
+pub use page::{Place, page_sound};

@@ -1,5 +1,6 @@
 -- A request as code reads it: its status, its proof, its text, from the cells of its rows. Assumes nothing.
 use mathlib.Core.Path.{◌∙◌, ◌≡◌, ap, sym}
+use Rattle.std.specs.Prelude as Std
 use Prim.Native.Nat.{◌+◌, ◌<◌, ◌≤◌, ℕ}
 use lib.ListN.{get_or, get_elem?, length, take}
 use mathlib.Core.List.{List, []}
@@ -7,7 +8,6 @@ use mathlib.Core.Option.{Option, none, some}
 use native.Mathlib.Omega.{arith}
 use Rattle.answers.specs.Texts.{extent, extent_by}
 use Rattle.ledger_live.specs.Lives.{Lives, LivesAs}
-use Rattle.ledger_live.specs.declared.Live.{Live}
 use Rattle.ledger_reads.proofs.Decided.{approved_is, approved_marked, mark_small, rejected_marked, status_by_mark, status_marked, unapproved}
 use Rattle.ledger_reads.specs.Read.{ApprovedAt}
 use Rattle.lists.proofs.Places.{at_below, past_end}
@@ -20,7 +20,6 @@ use Rattle.machine.specs.Types.{Bytes, Ledger, Request}
 use Rattle.records.specs.declared.ApprovalProof.{ApprovalProof}
 use Rattle.records.specs.declared.refusal.Refusal.TheVariants.{RequestNotFound}
 use Rattle.records.specs.declared.status.RequestStatus.{RequestStatus}
-use Rattle.rows.specs.declared.Found.{Found}
 use Rattle.tables.proofs.Indexed.{agent_index, approver_index, asked_index, decided_index, text_inside}
 use Rattle.tables.proofs.Laid.{laid}
 use Rattle.tables.proofs.Rows.{request_count_is}
@@ -30,13 +29,13 @@ use Rattle.tables.specs.Tables.{Stands, Tables, asked_row, decided_row}
 use Rattle.records.specs.declared.status.RequestStatus.TheVariants as Status
 
 -- an undecided request's status, by the key that it is live under
-abbrev pub waiting : Live → RequestStatus
-waiting (Live.At i) = Status.Pending
-waiting Live.Nothing = Status.Void
+abbrev pub waiting : Std.Option ℕ → RequestStatus
+waiting (Std.Some i) = Status.Pending
+waiting Std.None = Status.Void
 
-told_status : (L : Ledger) (o : Option Place) (l : Live) → LivesAs L o l → status_marked o 0 ≡ waiting l
-told_status L o (Live.At i) w = ap (λ (o : Option Place). status_marked o 0) w.2
-told_status L o Live.Nothing w = ap (λ (o : Option Place). status_marked o 0) w
+told_status : (L : Ledger) (o : Option Place) (l : Std.Option ℕ) → LivesAs L o l → status_marked o 0 ≡ waiting l
+told_status L o (Std.Some i) w = ap (λ (o : Option Place). status_marked o 0) w.2
+told_status L o Std.None w = ap (λ (o : Option Place). status_marked o 0) w
 
 -- the proof of request n that these rows and keys hold
 abbrev pub proof_in_rows : ℕ → List ℕ → List ℕ → List ℕ → List ℕ → ApprovalProof
@@ -97,7 +96,7 @@ module _ {t : Tables} {L : Ledger} (st : Stands t L) {n : ℕ} where
     pub status_rejected : cell (n + 321) 0 t.book ≡ 2 → status L n ≡ did Status.Rejected
     status_rejected e = status_at 2 e ∙ ap did (rejected_marked (live L n here.0.asked))
 
-    pub status_waiting : (cell (n + 321) 0 t.book ≡ 1 → ⊥) → (cell (n + 321) 0 t.book ≡ 2 → ⊥) → (l : Live) → Lives t n l → status L n ≡ did (waiting l)
+    pub status_waiting : (cell (n + 321) 0 t.book ≡ 1 → ⊥) → (cell (n + 321) 0 t.book ≡ 2 → ⊥) → (l : Std.Option ℕ) → Lives t n l → status L n ≡ did (waiting l)
     status_waiting a b l w = status_at 0 (omega (arith, mark_is, mark_small here.0.decision)) ∙ ap did (told_status L _ l (w.lives st here.1))
 
     -- its proof
@@ -121,7 +120,7 @@ module _ {t : Tables} {L : Ledger} (st : Stands t L) {n : ℕ} where
       text_ends = rw asked_is (omega (arith, text_inside st here.1, st.sound.rooms.text, (lengths st).texts_long))
 
 -- the same of a place that was found to be an approved request's
-module _ {t : Tables} {L : Ledger} (st : Stands t L) {n i : ℕ} (f : ApprovedAt t n (Found.At i)) where
+module _ {t : Tables} {L : Ledger} (st : Stands t L) {n i : ℕ} (f : ApprovedAt t n (Std.Some i)) where
   pub proof_found : (text : Bytes) × (approval L n ≡ some (record {
     is = proof_in_rows n (get_or t.book (i + 65) []) (get_or t.keys (i + 64) []) (get_or t.book (i + 321) []) (get_or t.keys (i + 320) []);
     text = text;

@@ -5,6 +5,6 @@ mod approval;
 mod revocations;
 mod status;
 
-pub use approval::{approval_sound, approval_text_sound};
+pub use approval::{approval_sound, approval_text_sound, approved_at};
 pub use revocations::revocations_sound;
 pub use status::status_sound;

@@ -2,51 +2,39 @@
 ghost use Rattle.answers.specs.Calls.{revocations_call};
 ghost use Rattle.answers.specs.Does.{Part};
 ghost use Rattle.ledger_reads.specs.Read.{EndedAt};
-ghost use Rattle.tables.specs.Tables.{Standing, tables};
+ghost use Rattle.tables.specs.Lent.{lent};
 
-use answers::RevocationsAnswer;
 use ids::RegistrationId;
-use records::{BlockTime, ProofRevocations, Revocation};
+use records::{BlockTime, ProofRevocations, Refusal};
+use tables::Sound;
 
 // When a registration ended; nothing for one that is in force, or was never made.
-fn ended_at(
-    book: &[[u64; 6]],
-    keys: &[[u8; 32]],
-    texts: &[u8],
-    registration: RegistrationId,
-) -> Revocation
-    requires { Standing (tables book.now keys.now texts.now) }
-    ensures { EndedAt (tables book.now keys.now texts.now) registration.0 result }
+fn ended_at(sound: &Sound<'_>, registration: RegistrationId) -> Option<BlockTime>
+    ensures { EndedAt (lent sound.now) registration.0 result }
 {
-    if registration.0 >= book[0][2] {
-        return Revocation::Nothing;
+    if registration.0 >= sound.book[0][2] {
+        return None;
     }
-    let row = book[registration.0 as usize + 577];
+    let row = sound.book[registration.0 as usize + 577];
     if row[0] == 0 {
-        return Revocation::Nothing;
+        return None;
     }
-    Revocation::At(BlockTime {
+    Some(BlockTime {
         height: row[1],
         timestamp_ns: row[2],
     })
 }
 
 pub fn revocations_sound(
-    book: &[[u64; 6]],
-    keys: &[[u8; 32]],
-    texts: &[u8],
+    sound: &Sound<'_>,
     agent: RegistrationId,
     approver: RegistrationId,
-) -> RevocationsAnswer
-    requires { Standing (tables book.now keys.now texts.now) }
+) -> Result<ProofRevocations, Refusal>
     ensures { Part (revocations_call agent approver)
-        (tables book.now keys.now texts.now)
-        (tables book.now keys.now texts.now) result }
+        (lent sound.now) (lent sound.now) result }
 {
-    let agent_end = ended_at(book, keys, texts, agent);
-    let approver_end = ended_at(book, keys, texts, approver);
-    RevocationsAnswer::Are(ProofRevocations {
-        agent: agent_end,
-        approver: approver_end,
+    Ok(ProofRevocations {
+        agent: ended_at(sound, agent),
+        approver: ended_at(sound, approver),
     })
 }

@@ -3,12 +3,12 @@ ghost use Rattle.answers.specs.Calls.{reject_call};
 ghost use Rattle.answers.specs.Does.{Part};
 ghost use Rattle.tables.specs.Tables.{Standing, tables};
 
-use answers::{Answer, Requested};
-use ids::RequestId;
-use ledger_callers::{Auth, authenticate};
+use ids::{RegistrationId, RequestId};
+use ledger_callers::authenticate;
 use ledger_decisions::store::store;
-use ledger_requests::{Decidable, decidable_request, request_of, request_refused};
-use records::{BlockTime, Caller, Mark, Refusal, Role};
+use ledger_requests::{decidable_request, request_of};
+use records::{ActionRequest, BlockTime, Caller, Decision, Refusal, Rejection, Role};
+use tables::Sound;
 
 // Document 01's 2, 3, 4, 5, 11, 12, 13, 14, 16, in that order.
 pub fn reject_sound(
@@ -18,38 +18,38 @@ pub fn reject_sound(
     caller: Caller,
     request: RequestId,
     time: BlockTime,
-) -> Requested
+) -> Result<ActionRequest, Refusal>
     requires { Standing (tables book.old keys.old texts.old) }
     ensures { Part (reject_call caller request time)
         (tables book.old keys.old texts.old)
         (tables book.new keys.new texts.new) result }
 {
-    let by = match authenticate(book, keys, texts, caller, Role::Approver) {
-        Auth::At(by) => by,
-        Auth::Refused(why) => return request_refused(why),
-    };
-    let i = match decidable_request(book, keys, texts, request) {
-        Decidable::At(i) => i,
-        Decidable::Refused(why) => return request_refused(why),
-    };
+    let sound = Sound { book, keys, texts };
+    let by = authenticate(&sound, caller, Role::Approver)?;
+    let i = decidable_request(&sound, request)?;
     let n = request.0 as usize;
     let asked = book[n + 65];
     if caller.signer.0 == asked[0] {
-        return request_refused(Refusal::SelfApproval);
+        return Err(Refusal::SelfApproval);
     }
     let key = caller.signer_key;
+    let number = book[by + 1][2];
     let decided = [
         2,
         0,
         caller.signer.0,
-        book[by + 1][2],
+        number,
         time.height,
         time.timestamp_ns,
     ];
-    let is = request_of(request, asked, keys[n + 64], Mark::Rejected, decided, key);
+    let rejection = Rejection {
+        approver_account_id: caller.signer,
+        approver_key: key,
+        approver_registration_id: RegistrationId(number),
+        rejected_at: time,
+    };
+    let agent_key = keys[n + 64];
     store(book, keys, n, i, decided, key);
-    Requested {
-        answer: Answer::Done,
-        request: is,
-    }
+    let decision = Some(Decision::Rejected(rejection));
+    Ok(request_of(request, asked, agent_key, decision))
 }

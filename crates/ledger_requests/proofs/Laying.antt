@@ -29,6 +29,13 @@ use Rattle.tables.proofs.Stored.{book_holds, keys_holds, stored, texts_hold}
 use Rattle.tables.specs.Parts.{request_count, text_used}
 use Rattle.tables.specs.Tables.{Stands, Tables, agent_of, asked_row, asked_rows, decided_key, decided_row, decision_of, decisions, head_row, holder_row, key_of, log_row, revoked_row, tables, tables_of, words}
 
+-- another pending count in a holder's row is another in its holder
+pub pending_laid : {t : Tables} {L : Ledger} → Stands t L → {i : ℕ} {p : Holder} → At L.keys i p → (f : List ℕ → List ℕ) (m : ℕ) → f (holder_row p) ≡ holder_row (record { reg = p.reg; pending = m })
+    → set (padded 64 zero_row (map holder_row L.keys)) i (f (get_or t.book (i + 1) [])) ≡ padded 64 zero_row (map holder_row (set L.keys i (record { reg = p.reg; pending = m })))
+pending_laid {L = L} st {i} {p} hp f m e =
+    ap (set (padded 64 zero_row (map holder_row L.keys)) i) (ap f (holder_index st hp (i + 1) (omega arith)) ∙ e)
+    ∙ set_map 64 zero_row holder_row L.keys i (record { reg = p.reg; pending = m }) (at_lt hp) (keys_room st.sound (laid L st.laid))
+
 module _ {t : Tables} {L : Ledger} (st : Stands t L) {i : ℕ} {p : Holder} (hp : At L.keys i p) (a : Asked) where
   -- the ledger with request a, undecided, and one Pending more of the key at place i
   abbrev pub grown : Ledger
@@ -62,9 +69,7 @@ module _ {t : Tables} {L : Ledger} (st : Stands t L) {i : ℕ} {p : Holder} (hp 
   holders_laid : set (padded 64 zero_row (map holder_row L.keys)) i (raised (get_or t.book (i + 1) [])) ≡ padded 64 zero_row (map holder_row grown.keys)
   holders_laid =
       let one = add-one p.pending in
-      let row : raised (get_or t.book (i + 1) []) ≡ holder_row q =
-      ap raised (holder_index st hp (i + 1) (omega arith)) ∙ (λ j. p.reg.account ∷ get_or (holder_row p) 1 0 ∷ p.reg.number ∷ p.reg.active ∷ one j ∷ 0 ∷ []) in
-      ap (set (padded 64 zero_row (map holder_row L.keys)) i) row ∙ set_map 64 zero_row holder_row L.keys i q (at_lt hp) (keys_room st.sound (laid L st.laid))
+      pending_laid st hp raised (suc p.pending) (λ j. p.reg.account ∷ get_or (holder_row p) 1 0 ∷ p.reg.number ∷ p.reg.active ∷ one j ∷ 0 ∷ [])
 
   -- the next place of a list that grows with the requests
   next : {A : Type 0} (z : A) (xs : List A) (x : A) → length xs ≡ length L.requests → request_count t < request_room

@@ -7,12 +7,12 @@ ghost use Rattle.tables.specs.Parts.{request_count, text_used};
 ghost use Rattle.tables.specs.Tables.{Standing, tables};
 ghost use Rattle.ledger_requests.specs.Stores.{Stored, Storable};
 
-use crate::told::{request_of, request_refused};
-use answers::{Answer, Requested};
+use crate::told::request_of;
 use ids::{Key, RequestId};
-use ledger_callers::{Auth, authenticate};
-use records::{BlockTime, Caller, Mark, Refusal, Role};
+use ledger_callers::authenticate;
+use records::{ActionRequest, BlockTime, Caller, Refusal, Role};
 use rows::change::put_bytes;
+use tables::Sound;
 
 // Stores the next request, of the key at place i. Its decided row and its approver's key are zero already.
 fn store(
@@ -51,33 +51,30 @@ pub fn request_sound(
     caller: Caller,
     action: &[u8],
     time: BlockTime,
-) -> Requested
+) -> Result<ActionRequest, Refusal>
     requires { Standing (tables book.old keys.old texts.old) }
     ensures { Part (request_call caller action.now time)
         (tables book.old keys.old texts.old)
         (tables book.new keys.new texts.new) result }
 {
-    let i = match authenticate(book, keys, texts, caller, Role::Agent) {
-        Auth::At(i) => i,
-        Auth::Refused(why) => return request_refused(why),
-    };
-    if action.len() == 0 {
-        return request_refused(Refusal::EmptyAction);
+    let i = authenticate(&Sound { book, keys, texts }, caller, Role::Agent)?;
+    if action.is_empty() {
+        return Err(Refusal::EmptyAction);
     }
     if action.len() > 2048 {
-        return request_refused(Refusal::ActionTooLong);
+        return Err(Refusal::ActionTooLong);
     }
     let holder = book[i + 1];
     if holder[4] >= 16 {
-        return request_refused(Refusal::TooManyPending);
+        return Err(Refusal::TooManyPending);
     }
     let head = book[0];
     if head[3] >= 256 {
-        return request_refused(Refusal::LogFull);
+        return Err(Refusal::LogFull);
     }
     let len = action.len() as u64;
     if head[5] + len > 32768 {
-        return request_refused(Refusal::TextFull);
+        return Err(Refusal::TextFull);
     }
     let key = caller.signer_key;
     let asked = [
@@ -89,16 +86,5 @@ pub fn request_sound(
         time.timestamp_ns,
     ];
     store(book, keys, texts, i, asked, key, action);
-    let request = request_of(
-        RequestId(head[3]),
-        asked,
-        key,
-        Mark::Undecided,
-        [0; 6],
-        [0; 32],
-    );
-    Requested {
-        answer: Answer::Done,
-        request,
-    }
+    Ok(request_of(RequestId(head[3]), asked, key, None))
 }

@@ -1,41 +1,29 @@
 // Whether a request may be decided: the source's `decidable_request`.
-ghost use Rattle.tables.specs.Tables.{Standing, tables};
+ghost use Rattle.tables.specs.Lent.{lent};
 ghost use Rattle.ledger_requests.specs.Candidates.{MayDecide};
 
 use ids::RequestId;
-use ledger_live::{Live, live_agent_registration};
+use ledger_live::live_agent_registration;
 use records::Refusal;
+use tables::Sound;
 
-// The place of the key that a request waits under, or why it may not be decided.
-#[derive(Clone, Copy)]
-pub enum Decidable {
-    At(usize),
-    Refused(Refusal),
-}
-
-// Document 01's 11, 12, 13, 14, in that order.
-pub fn decidable_request(
-    book: &[[u64; 6]],
-    keys: &[[u8; 32]],
-    texts: &[u8],
-    request: RequestId,
-) -> Decidable
-    requires { Standing (tables book.now keys.now texts.now) }
-    ensures { MayDecide (tables book.now keys.now texts.now) request.0 result }
+// Document 01's 11, 12, 13, 14, in that order: the place of the key that the request waits under, or why it may not be decided.
+pub fn decidable_request(sound: &Sound<'_>, request: RequestId) -> Result<usize, Refusal>
+    ensures { MayDecide (lent sound.now) request.0 result }
 {
-    if request.0 >= book[0][3] {
-        return Decidable::Refused(Refusal::RequestNotFound);
+    if request.0 >= sound.book[0][3] {
+        return Err(Refusal::RequestNotFound);
     }
     let n = request.0 as usize;
-    let mark = book[n + 321][0];
+    let mark = sound.book[n + 321][0];
     if mark == 1 {
-        return Decidable::Refused(Refusal::AlreadyApproved);
+        return Err(Refusal::AlreadyApproved);
     }
     if mark == 2 {
-        return Decidable::Refused(Refusal::AlreadyRejected);
+        return Err(Refusal::AlreadyRejected);
     }
-    let Live::At(i) = live_agent_registration(book, keys, texts, n) else {
-        return Decidable::Refused(Refusal::AgentRevoked);
+    let Some(i) = live_agent_registration(sound, n) else {
+        return Err(Refusal::AgentRevoked);
     };
-    Decidable::At(i)
+    Ok(i)
 }

@@ -6,13 +6,13 @@ use lib.ListN.{get_or, length, length-map, length-set, set}
 use mathlib.Core.List.{List, [], ◌∷◌, map}
 use mathlib.Core.Option.{some}
 use native.Mathlib.Omega.{arith}
+use Rattle.std.specs.Prelude.{Some, None, Result, Ok, Err}
 use Rattle.answers.proofs.Doing.{part_did, part_refused}
 use Rattle.answers.specs.Answers.{registered}
 use Rattle.answers.specs.Calls.{revoke_call}
 use Rattle.answers.specs.Does.{Part}
-use Rattle.answers.specs.declared.Registered.{Registered}
 use Rattle.ids.specs.declared.Account.{Account}
-use Rattle.ledger_callers.proofs.Within.{Counts, counts, is_owner, no_owner}
+use Rattle.ledger_keys.proofs.Counted.{Counts, counts, is_owner, no_owner}
 use Rattle.ledger_keys.specs.Registrations.{principal_of_row}
 use Rattle.lists.proofs.Maps.{at_map, map_erase}
 use Rattle.lists.proofs.Places.{at_lt, length_erase}
@@ -26,6 +26,7 @@ use Rattle.machine.specs.Types.{Bytes, Holder, Ledger, Registration}
 use Rattle.records.proofs.Roles.{role_back}
 use Rattle.records.specs.declared.BlockTime.{BlockTime}
 use Rattle.records.specs.declared.Principal.{Principal}
+use Rattle.records.specs.declared.refusal.Refusal.{Refusal}
 use Rattle.records.specs.declared.refusal.Refusal.TheVariants.{KeyNotRegistered, NotOwner}
 use Rattle.rows.proofs.Padded.{length_padded, set_map, slid_map}
 use Rattle.rows.proofs.Regions.{region_put, region_store}
@@ -38,7 +39,6 @@ use Rattle.tables.proofs.Seeks.{seek_found, seek_missing}
 use Rattle.tables.proofs.Stored.{book_holds, keys_holds, stored, texts_hold}
 use Rattle.tables.specs.Parts.{cell, held, holders, key_count, owner}
 use Rattle.tables.specs.Tables.{Stands, Tables, book_of, head_row, holder_row, key_of, keys_of, revoked_row, tables, tables_of}
-use Rattle.rows.specs.declared.Found.TheVariants as Found
 
 -- ---- what is stored: rows and keys without the registration at place i, its revocation by its number, and the count
 abbrev pub struck : Tables → ℕ → BlockTime → List (List ℕ) → List (List ℕ)
@@ -105,22 +105,22 @@ module _ (t : Tables) (caller : Account) (key : Bytes) (time : BlockTime) where
   abbrev planned : Ledger → Plan (Did Principal)
   planned L = revoke_in L caller.0 key time
 
-  abbrev Revokes : Tables → Registered → Type 0
+  abbrev Revokes : Tables → Result Principal Refusal → Type 0
   Revokes t' r = Part (revoke_call caller key time) t t' r
 
-  pub not_owner : (caller.0 ≡ owner t → ⊥) → Revokes t (Registered.Refused NotOwner)
+  pub not_owner : (caller.0 ≡ owner t → ⊥) → Revokes t (Err NotOwner)
   unfolding revoke_call
   not_owner other = part_refused registered planned {t = t} NotOwner (λ L st. rw (no_owner st other))
 
   module _ (own : caller.0 ≡ owner t) where
-    pub not_registered : Finds (key_count t) t.keys key Found.Nothing → Revokes t (Registered.Refused KeyNotRegistered)
+    pub not_registered : Finds (key_count t) t.keys key None → Revokes t (Err KeyNotRegistered)
     unfolding revoke_call
     not_registered f = part_refused registered planned {t = t} KeyNotRegistered (λ L st. rw (is_owner st own, seek_missing st key (key_count t) refl f))
 
-    pub revoked : {i : ℕ} → Finds (key_count t) t.keys key (Found.At i)
+    pub revoked : {i : ℕ} → Finds (key_count t) t.keys key (Some i)
         → {rows ks : List (List ℕ)} → rows ≡ slid i (key_count t) zero_row (holders t) → ks ≡ slid i (key_count t) zero_key (held t)
         → {r : Principal} → r ≡ principal_of_row (get_or t.book (i + 1) [])
-        → Revokes (stores t i time rows ks) (Registered.Gave r)
+        → Revokes (stores t i time rows ks) (Ok r)
     unfolding revoke_call
     revoked {i} f er ek q = part_did registered planned {t = t} (λ L s. sound_revoke L s caller.0 key time) (λ L st.
         let s = seek_found st key (key_count t) i refl f in (

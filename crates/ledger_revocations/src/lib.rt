@@ -1,15 +1,16 @@
 // Registrations ended, on tables that are given sound. For `ledger`.
+// Kept apart, by what may not change: a struct of the three loans would ask more of callers, since revoking lends `texts` shared and C lends each table by itself.
 #![tactic(auto)]
 
 ghost use Rattle.answers.specs.Calls.{revoke_call};
 ghost use Rattle.answers.specs.Does.{Part};
 ghost use Rattle.tables.specs.Tables.{Standing, tables};
 
-use answers::Registered;
 use ids::{Account, Key};
 use ledger_keys::principal_in;
-use records::{BlockTime, Refusal};
-use rows::Found;
+use records::{BlockTime, Principal, Refusal};
+use rows::change::shift;
+use rows::search::find;
 
 // Ends a registration: its row and its key are taken out, and its revocation is written by its number.
 pub fn revoke_sound(
@@ -19,7 +20,7 @@ pub fn revoke_sound(
     caller: Account,
     key: Key,
     time: BlockTime,
-) -> Registered
+) -> Result<Principal, Refusal>
     requires { Standing (tables book.old keys.old texts.now) }
     ensures { Part (revoke_call caller key time)
         (tables book.old keys.old texts.now)
@@ -27,16 +28,16 @@ pub fn revoke_sound(
 {
     let head = book[0];
     if caller.0 != head[0] {
-        return Registered::Refused(Refusal::NotOwner);
+        return Err(Refusal::NotOwner);
     }
     let n = head[1] as usize;
-    let Found::At(i) = rows::search::find(keys, n, key) else {
-        return Registered::Refused(Refusal::KeyNotRegistered);
+    let Some(i) = find(keys, n, key) else {
+        return Err(Refusal::KeyNotRegistered);
     };
     let row = book[i + 1];
-    rows::change::shift_keys(&mut keys[0..64], i, n);
-    rows::change::shift_rows(&mut book[1..65], i, n);
+    shift(&mut keys[0..64], i, n, [0; 32]);
+    shift(&mut book[1..65], i, n, [0; 6]);
     book[row[2] as usize + 577] = [1, time.height, time.timestamp_ns, 0, 0, 0];
     book[0][1] = head[1] - 1;
-    Registered::Gave(principal_in(row))
+    Ok(principal_in(row))
 }

@@ -1,4 +1,4 @@
 pub mod Appending
 pub mod Decimal
-pub mod Numbered
 pub mod Short
+pub mod Numbered

@@ -1,21 +1,18 @@
 -- How long the lines of a run are at most: 428 bytes for a command that is told few and small numbers, 46 for the stop, 95 for the end. Assumes nothing.
-use mathlib.Core.Path.{◌≡◌, refl}
-use mathlib.Core.Bool.{Bool, true, false, cond}
+use mathlib.Core.Path.{refl}
 use mathlib.Core.Option.{Option, none, some}
-use mathlib.Core.List.{List, [], ◌∷◌, ◌++◌}
+use mathlib.Core.List.{List, [], ◌∷◌}
 use Prim.Native.Nat.{ℕ, zero, suc, ◌+◌, ◌*◌, ◌/◌, ◌%◌, ◌^◌, ◌≤◌, ◌<◌}
 use native.Mathlib.Nat.{pow-suc}
 use native.Mathlib.Omega.{arith}
-use lib.Dec.{ltb}
 use lib.ListN.{length, length-append}
-use borrow.Author.Tests.{ltb-false}
+use Rattle.std.proofs.lemmas.Bool.Decides.{nat_tests}
 use Rattle.lists.proofs.Places.{length_snoc, up}
 use Rattle.lists.specs.Places.{At}
 use Rattle.records.specs.Refusals.{refusal_number, text_of_refusal}
 use Rattle.records.specs.Statuses.{status_text}
 use Rattle.records.specs.declared.refusal.Refusal.{Refusal}
 use Rattle.records.specs.declared.status.RequestStatus.{RequestStatus}
-use Rattle.records.specs.declared.status.RequestStatus.TheVariants as Status
 use Rattle.fields.specs.Faults.{fault_text}
 use Rattle.fields.specs.declared.fault.Fault.{Fault}
 use Rattle.fields.specs.declared.fault.Stop.{Stop}
@@ -26,25 +23,13 @@ use Rattle.lines.specs.declared.tally.Tally.{Tally}
 -- ---- digits
 no_more : (k n : ℕ) → length (decimal_by k n) ≤ k
 no_more zero n = omega arith
-no_more (suc k) n = go (ltb n 10) (no_more k (n / 10))
-  where
-    go : (b : Bool) → length (decimal_by k (n / 10)) ≤ k → length (cond b ((48 + n) ∷ []) (decimal_by k (n / 10) ++ ((48 + n % 10) ∷ []))) ≤ suc k
-    go true h = omega arith
-    go false h = omega (arith, length_snoc (decimal_by k (n / 10)) (48 + n % 10))
+no_more (suc k) n = grind (arith, nat_tests, length_snoc (decimal_by k (n / 10)) (48 + n % 10), no_more k (n / 10))
 
 -- a number below 10 to the j has at most j digits, and 0 has one
 few_digits : (k j n : ℕ) → n < 10 ^ suc j → length (decimal_by k n) ≤ suc j
 few_digits zero j n h = omega arith
-few_digits (suc k) zero n h = go (ltb n 10) refl
-  where
-    go : (b : Bool) → ltb n 10 ≡ b → length (cond b ((48 + n) ∷ []) (decimal_by k (n / 10) ++ ((48 + n % 10) ∷ []))) ≤ 1
-    go true e = omega arith
-    go false e = absurd (omega (arith, ltb-false n 10 e, pow-suc 10 0))
-few_digits (suc k) (suc j) n h = go (ltb n 10) (few_digits k j (n / 10) (omega (arith, pow-suc 10 (suc j))))
-  where
-    go : (b : Bool) → length (decimal_by k (n / 10)) ≤ suc j → length (cond b ((48 + n) ∷ []) (decimal_by k (n / 10) ++ ((48 + n % 10) ∷ []))) ≤ suc (suc j)
-    go true h = omega arith
-    go false h = omega (arith, length_snoc (decimal_by k (n / 10)) (48 + n % 10))
+few_digits (suc k) zero n h = grind (arith, nat_tests, pow-suc 10 0)
+few_digits (suc k) (suc j) n h = grind (arith, nat_tests, length_snoc (decimal_by k (n / 10)) (48 + n % 10), few_digits k j (n / 10) (omega (arith, pow-suc 10 (suc j))))
 
 pub decimal_short : (n : ℕ) → length (decimal n) ≤ 20
 unfolding decimal
@@ -70,34 +55,11 @@ spaced_short (n ∷ ns) h =
 
 status_short : (s : RequestStatus) → length (status_text s) ≤ 8
 unfolding status_text
-status_short Status.Pending = omega arith
-status_short Status.Approved = omega arith
-status_short Status.Rejected = omega arith
-status_short Status.Void = omega arith
+status_short s = grind arith
 
 refusal_short : (e : Refusal) → length (text_of_refusal e) ≤ 45
 unfolding text_of_refusal
-refusal_short Refusal.NotOwner = omega arith
-refusal_short Refusal.IndirectCall = omega arith
-refusal_short Refusal.UnknownKey = omega arith
-refusal_short Refusal.WrongRole = omega arith
-refusal_short Refusal.KeyAccountMismatch = omega arith
-refusal_short Refusal.KeyAlreadyRegistered = omega arith
-refusal_short Refusal.KeyNotRegistered = omega arith
-refusal_short Refusal.EmptyAction = omega arith
-refusal_short Refusal.ActionTooLong = omega arith
-refusal_short Refusal.TooManyPending = omega arith
-refusal_short Refusal.RequestNotFound = omega arith
-refusal_short Refusal.AlreadyApproved = omega arith
-refusal_short Refusal.AlreadyRejected = omega arith
-refusal_short Refusal.AgentRevoked = omega arith
-refusal_short Refusal.ActionMismatch = omega arith
-refusal_short Refusal.SelfApproval = omega arith
-refusal_short Refusal.LogFull = omega arith
-refusal_short Refusal.KeysFull = omega arith
-refusal_short Refusal.TextFull = omega arith
-refusal_short Refusal.Damaged = omega arith
-refusal_short Refusal.PageRoom = omega arith
+refusal_short e = grind arith
 
 said_short : (t : Told) → Few t → length (said t) ≤ 407
 unfolding said
@@ -113,13 +75,7 @@ line_short i t h = simp length-append (omega (arith, decimal_short i, said_short
 -- ---- the last two lines
 fault_short : (e : Fault) → length (fault_text e) ≤ 12
 unfolding fault_text
-fault_short Fault.MissingField = omega arith
-fault_short Fault.CutField = omega arith
-fault_short Fault.UnknownField = omega arith
-fault_short Fault.FieldOrder = omega arith
-fault_short Fault.FieldLength = omega arith
-fault_short Fault.BadRole = omega arith
-fault_short Fault.InputTooLong = omega arith
+fault_short e = grind arith
 
 pub stopped_short : (o : Option Stop) → length (line_of_stop o) ≤ 46
 unfolding line_of_stop

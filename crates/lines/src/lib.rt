@@ -6,6 +6,6 @@ mod output;
 mod reply;
 mod tally;
 
-pub use line::{answer_line, end_line, stopped_line};
+pub use output::Out;
 pub use reply::Reply;
 pub use tally::{Tally, counted};

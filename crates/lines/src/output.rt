@@ -1,68 +1,62 @@
-// Writing to a lent row of bytes: each function answers where the next text goes. What passes the row's end is left out.
-ghost use Rattle.std.specs.Prelude.{min, ◌≡◌, [], ◌∷◌, ◌++◌, take};
+// A lent row of bytes that texts are written to, one after the other. For the lines, and for who lends the row.
+ghost use Rattle.std.specs.Prelude.{◌≡◌, ◌≤◌, length, [], ◌∷◌, ◌++◌, take};
 ghost use Rattle.lines.specs.Decimal.{decimal};
 ghost use Rattle.lines.specs.Lines.{spaced};
 ghost use Rattle.lines.specs.Output.{Appends};
 
-use records::Text;
 use rows::change::put_bytes;
 
-pub fn push(out: &mut [u8], at: usize, bytes: &[u8]) -> usize
-    ensures { Appends bytes.now out.old at out.new result }
-{
-    let len = out.len();
-    if at >= len {
-        return at;
+// The row, and where its next text goes. Texts are pushed: `write!` would promise its text only where it answers `Ok`, and a line stands always.
+#[derive(Drop)]
+pub struct Out<'a> {
+    pub row: &'a mut [u8],
+    pub at: usize,
+}
+
+impl Out<'_> {
+    // What passes the row's end is left out.
+    fn push_bytes(&mut self, bytes: &[u8])
+        ensures { Appends bytes.now self.old self.new }
+    {
+        let room = self.row.len().saturating_sub(self.at);
+        if room == 0 {
+            return;
+        }
+        let n = bytes.len().min(room);
+        put_bytes(self.row, self.at, &bytes[..n]);
+        self.at += n;
     }
-    let room = len - at;
-    if bytes.len() > room {
-        put_bytes(out, at, &bytes[..room]);
-        return len;
+
+    pub(crate) fn push(&mut self, text: &str)
+        ensures { Appends text.now self.old self.new }
+    {
+        self.push_bytes(text.as_bytes());
     }
-    put_bytes(out, at, bytes);
-    at + bytes.len()
-}
 
-pub fn push_decimal(out: &mut [u8], at: usize, n: u64) -> usize
-    ensures { Appends (decimal n) out.old at out.new result }
-{
-    let mut digits = [0u8; 20];
-    let k = io::decimal(n, &mut digits);
-    push(out, at, &digits[..k])
-}
-
-// A text and a number.
-pub fn push_counted(out: &mut [u8], at: usize, text: &[u8], n: u64) -> usize
-    ensures { Appends (text.now ++ decimal n) out.old at out.new result }
-{
-    let next = push(out, at, text);
-    push_decimal(out, next, n)
-}
-
-// A space and a number.
-pub fn push_number(out: &mut [u8], at: usize, n: u64) -> usize
-    ensures { Appends (spaced (n ∷ [])) out.old at out.new result }
-{
-    let next = push(out, at, b" ");
-    push_decimal(out, next, n)
-}
-
-fn least(a: usize, b: usize) -> usize
-    ensures { result ≡ min a b }
-{
-    if a < b { a } else { b }
-}
-
-// The first k of a row of numbers, a space before each.
-pub fn push_numbers(out: &mut [u8], at: usize, numbers: &[u64], k: usize) -> usize
-    ensures { Appends (spaced (take k numbers.now)) out.old at out.new result }
-{
-    let n = least(k, numbers.len());
-    let mut next = at;
-    let mut i = 0;
-    while i < n {
-        next = push_number(out, next, numbers[i]);
-        i += 1;
+    #[tactic(auto, using(crate::proofs::Decimal::decimal_text))]
+    pub(crate) fn push_decimal(&mut self, n: u64)
+        ensures { Appends (decimal n) self.old self.new }
+    {
+        let mut digits = [0; 20];
+        let k = io::decimal(n, &mut digits);
+        self.push_bytes(&digits[..k]);
     }
-    next
+
+    // A text and a number.
+    #[tactic(auto, using(crate::proofs::Appending::then_more))]
+    pub(crate) fn push_counted(&mut self, text: &str, n: u64)
+        ensures { Appends (text.now ++ decimal n) self.old self.new }
+    {
+        self.push(text);
+        self.push_decimal(n);
+    }
+
+    // A space before each number.
+    pub(crate) fn push_numbers(&mut self, numbers: &[u64])
+        ensures { Appends (spaced numbers.now) self.old self.new }
+    {
+        for n in numbers {
+            self.push_counted(" ", *n);
+        }
+    }
 }

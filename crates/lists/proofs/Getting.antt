@@ -1,20 +1,13 @@
--- What `get_or` reads of a list and of one with a place taken out, and stores in a list of two parts and under a map. For the laws of tables. Assumes nothing.
+-- What `get_or` reads of a list, and what is stored and taken under a map. For the laws of tables. Assumes nothing.
 use mathlib.Core.Path.{◌≡◌, refl, ap}
-use Prim.Native.Nat.{ℕ, zero, suc, ◌+◌, ◌≤◌, ◌<◌}
-use native.Mathlib.Nat.{zero-add, suc-add}
+use Prim.Native.Nat.{ℕ, zero, suc, ◌<◌}
 use native.Mathlib.Omega.{arith}
-use mathlib.Core.List.{List, [], ◌∷◌, ◌++◌, map}
+use mathlib.Core.List.{List, [], ◌∷◌, map}
 use lib.ListN.{length, get_or, set, take}
-use Rattle.lists.specs.Places.{At, erase}
+use Rattle.lists.specs.Places.{At}
 use Rattle.lists.proofs.Places.{at_nil, at_head, down, up}
 
 module _ {A : Type 0} where
-  -- ---- reading; within the list the default does not count
-  pub get_d_any : (l : List A) (i : ℕ) (d e : A) → i < length l → get_or l i d ≡ get_or l i e
-  get_d_any [] i d e h = absurd (omega arith)
-  get_d_any (x ∷ xs) zero d e h = refl
-  get_d_any (x ∷ xs) (suc i) d e h = get_d_any xs i d e (omega arith)
-
   pub at_get_d : (l : List A) (i : ℕ) (d : A) → i < length l → At l i (get_or l i d)
   at_get_d [] i d h = absurd (omega arith)
   at_get_d (x ∷ xs) zero d h = record { is = refl }
@@ -24,40 +17,6 @@ module _ {A : Type 0} where
   get_d_of_at {l = []} d h = absurd (at_nil h)
   get_d_of_at {l = y ∷ ys} {i = zero} d h = at_head h
   get_d_of_at {l = y ∷ ys} {i = suc i} d h = get_d_of_at {l = ys} d (down h)
-
-  -- ---- a place taken out
-  pub take_erase : (l : List A) (i : ℕ) → take i (erase l i) ≡ take i l
-  take_erase l zero = refl
-  take_erase [] (suc i) = refl
-  take_erase (x ∷ xs) (suc i) = ap (λ (r : List A). x ∷ r) (take_erase xs i)
-
-  pub before_erase : (l : List A) (i k : ℕ) (d : A) → k < i → get_or (erase l i) k d ≡ get_or l k d
-  before_erase [] i k d h = refl
-  before_erase (x ∷ xs) zero k d h = absurd (omega arith)
-  before_erase (x ∷ xs) (suc i) zero d h = refl
-  before_erase (x ∷ xs) (suc i) (suc k) d h = before_erase xs i k d (omega arith)
-
-  pub after_erase : (l : List A) (i k : ℕ) (d : A) → i ≤ k → get_or (erase l i) k d ≡ get_or l (suc k) d
-  after_erase [] i k d h = refl
-  after_erase (x ∷ xs) zero k d h = refl
-  after_erase (x ∷ xs) (suc i) zero d h = absurd (omega arith)
-  after_erase (x ∷ xs) (suc i) (suc k) d h = after_erase xs i k d (omega arith)
-
-  -- ---- two parts
-  pub set_past : (l m : List A) (k : ℕ) (x : A) → set (l ++ m) (length l + k) x ≡ l ++ set m k x
-  set_past [] m k x = rw zero-add
-  set_past (y ∷ ys) m k x = rw suc-add (ap (λ (r : List A). y ∷ r) (set_past ys m k x))
-
-  -- where the front parts are as long, equal lists have equal parts
-  pub parts_equal : (a b : List A) {c d : List A} → length a ≡ length b → a ++ c ≡ b ++ d → (a ≡ b) × (c ≡ d)
-  parts_equal [] [] e p = (refl, p)
-  parts_equal [] (y ∷ b) e p = absurd (omega arith)
-  parts_equal (x ∷ a) [] e p = absurd (omega arith)
-  parts_equal (x ∷ a) (y ∷ b) {c} {d} e p =
-      let q : x ≡ y = cc in
-      let r : a ++ c ≡ b ++ d = cc in
-      let s = parts_equal a b (omega arith) r in
-      (λ i. q i ∷ s.0 i, s.1)
 
 pub map_set : {A B : Type 0} (f : A → B) (l : List A) (i : ℕ) (x : A) → map f (set l i x) ≡ set (map f l) i (f x)
 map_set f [] i x = refl

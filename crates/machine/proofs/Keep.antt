@@ -25,8 +25,8 @@ use Rattle.machine.specs.Tests.{Place, live, present, regs, seek}
 use Rattle.machine.specs.Types.{Asked, Bytes, Change, Decision, Holder, Ledger, Registration, Request, Undecided, add, approve, reject, request, revoke}
 use Rattle.records.specs.declared.BlockTime.{BlockTime}
 use Rattle.records.specs.declared.Caller.{Caller}
-use Rattle.records.specs.declared.Role.{Role}
-use Rattle.records.specs.declared.Role.TheVariants.{Agent}
+use Rattle.records.specs.declared.role.Role.{Role}
+use Rattle.records.specs.declared.role.Role.TheVariants.{Agent}
 
 abbrev Kept : {A : Type 0} → Did A → Type 0
 Kept d = Sound d.ledger

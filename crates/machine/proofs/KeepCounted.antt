@@ -15,7 +15,7 @@ use Rattle.lists.specs.Tallies.{bit}
 use Rattle.machine.specs.Rooms.{pending_limit}
 use Rattle.machine.specs.Sound.{Counted, undecided_yet, waits}
 use Rattle.machine.specs.Types.{Decision, Holder, Registration, Request, Undecided}
-use Rattle.records.specs.declared.Role.TheVariants.{Agent}
+use Rattle.records.specs.declared.role.Role.TheVariants.{Agent}
 
 -- one request's part in the count of registration g
 pub waits_same : (g : ℕ) (r : Request) → r.decision ≡ Undecided → r.asked.number ≡ g → waits g r ≡ true

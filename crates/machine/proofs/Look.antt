@@ -14,8 +14,8 @@ use Rattle.machine.specs.Tests.{Place, approved, live_under, next, present, reje
 use Rattle.machine.specs.Types.{Approved, Asked, Bytes, Decision, Holder, Registration, Rejected, Undecided}
 use Rattle.records.proofs.Roles.{same_by_number}
 use Rattle.records.specs.Roles.{role_number}
-use Rattle.records.specs.declared.Role.{Role}
-use Rattle.records.specs.declared.Role.TheVariants.{Agent}
+use Rattle.records.specs.declared.role.Role.{Role}
+use Rattle.records.specs.declared.role.Role.TheVariants.{Agent}
 
 -- a Boolean, and the answer that it gives: to go by cases on a test and keep the equation
 pub both : (a b : Bool) → (a && b) ≡ true → (a ≡ true) × (b ≡ true)

@@ -11,7 +11,7 @@ use Rattle.records.specs.Letters.{ascii}
 use Rattle.records.specs.Refusals.{refusal_number}
 use Rattle.records.specs.declared.BlockTime.{BlockTime}
 use Rattle.records.specs.declared.Caller.{Caller}
-use Rattle.records.specs.declared.Role.TheVariants.{Agent, Approver}
+use Rattle.records.specs.declared.role.Role.TheVariants.{Agent, Approver}
 use Rattle.records.specs.declared.status.RequestStatus.{RequestStatus}
 use Rattle.records.specs.declared.status.RequestStatus.TheVariants as Status
 

@@ -5,8 +5,8 @@ use Rattle.std.proofs.Math.Option.{Option, none, some}
 use Rattle.std.proofs.Math.ListN.{get_elem?}
 use Rattle.records.specs.declared.BlockTime.{BlockTime}
 use Rattle.records.specs.declared.Caller.{Caller}
-use Rattle.records.specs.declared.Role.{Role}
-use Rattle.records.specs.declared.Role.TheVariants.{Agent, Approver}
+use Rattle.records.specs.declared.role.Role.{Role}
+use Rattle.records.specs.declared.role.Role.TheVariants.{Agent, Approver}
 use Rattle.records.specs.declared.Principal.{Principal}
 use Rattle.records.specs.declared.ActionRequest.{ActionRequest}
 use Rattle.records.specs.declared.ApprovalProof.{ApprovalProof}

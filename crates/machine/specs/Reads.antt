@@ -1,5 +1,6 @@
 -- The reads (document 01, module 7; the source's `status_spec`, `approval_spec`, `approvals_spec`, reads.rs): none changes the ledger. Assumes nothing.
 use Rattle.std.specs.Prelude.{◌+◌, ◌-◌, min, suc, ℕ, ltb, drop, length, take, Bool, ◌&&◌, false, true, List, [], ◌++◌, ◌∷◌}
+use Rattle.std.specs.Prelude as Std
 use Rattle.std.proofs.Math.ListN.{get_elem?}
 use Rattle.std.proofs.Math.Option.{Option, none, some}
 use Rattle.machine.specs.Plan.{Outcome, Plan, ◌>>=◌, ◌>>◌, done, found, outcome, refuse◌if◌}
@@ -11,7 +12,6 @@ use Rattle.records.specs.declared.ApprovalProof.{ApprovalProof}
 use Rattle.records.specs.declared.BlockTime.{BlockTime}
 use Rattle.records.specs.declared.PageEntry.{PageEntry}
 use Rattle.records.specs.declared.ProofRevocations.{ProofRevocations}
-use Rattle.records.specs.declared.Revocation.{Revocation}
 use Rattle.records.specs.declared.refusal.Refusal.TheVariants.{PageRoom, RequestNotFound}
 use Rattle.records.specs.declared.status.RequestStatus.{RequestStatus}
 use Rattle.records.specs.declared.status.RequestStatus.TheVariants as Status
@@ -55,12 +55,12 @@ abbrev pub approval : Ledger → ℕ → Option (Texted ApprovalProof)
 approval L n = proof_in n (get_elem? L.requests n)
 
 -- ---- 'Revocation read: for each of two registration numbers a time or none'
-abbrev pub revocation_by : Option (Option BlockTime) → Revocation
-revocation_by none = Revocation.Nothing
-revocation_by (some none) = Revocation.Nothing
-revocation_by (some (some t)) = Revocation.At t
+abbrev pub revocation_by : Option (Option BlockTime) → Std.Option BlockTime
+revocation_by none = Std.None
+revocation_by (some none) = Std.None
+revocation_by (some (some t)) = Std.Some t
 
-abbrev pub revocation : Ledger → ℕ → Revocation
+abbrev pub revocation : Ledger → ℕ → Std.Option BlockTime
 revocation L g = revocation_by (get_elem? L.revoked g)
 
 abbrev pub revocations : Ledger → ℕ → ℕ → ProofRevocations

@@ -8,7 +8,7 @@ use Rattle.machine.specs.Rooms.{key_room, pending_limit, registration_room, requ
 use Rattle.machine.specs.Tests.{approved, asks, present, regs, ruled, used}
 use Rattle.machine.specs.Types.{Approved, Asked, Decision, Holder, Ledger, Registration, Rejected, Request, Undecided, Verdict}
 use Rattle.records.specs.declared.BlockTime.{BlockTime}
-use Rattle.records.specs.declared.Role.TheVariants.{Agent, Approver}
+use Rattle.records.specs.declared.role.Role.TheVariants.{Agent, Approver}
 
 abbrev pub verdict : Decision → Option Verdict
 verdict Undecided = none

@@ -1,8 +1,8 @@
 -- The tests and searches that the plans are made of. Assumes nothing.
 use Rattle.std.specs.Prelude.{ℕ, suc, ◌+◌, Bool, true, false, ◌&&◌, cond, List, [], ◌∷◌, map, length, leb, eqb}
 use Rattle.std.proofs.Math.Option.{Option, none, some}
-use Rattle.records.specs.declared.Role.{Role}
-use Rattle.records.specs.declared.Role.TheVariants.{Agent}
+use Rattle.records.specs.declared.role.Role.{Role}
+use Rattle.records.specs.declared.role.Role.TheVariants.{Agent}
 use Rattle.records.specs.Roles.{role_number}
 use Rattle.machine.specs.Types.{Bytes, Registration, Holder, Decision, Undecided, Approved, Rejected, Asked, Ledger}
 

@@ -1,5 +1,5 @@
--- The source's records, as the ledger's parts tell them (document 01, module 2: texts stand beside their records, absent fields are zero). Assumes nothing.
-use Rattle.std.specs.Prelude.{ℕ, replicate}
+-- The source's records, as the ledger's parts tell them (document 01, module 2: texts stand beside their records). Assumes nothing.
+use Rattle.std.specs.Prelude.{ℕ, replicate, Option, Some, None}
 use Rattle.ids.specs.declared.Account.{Account}
 use Rattle.ids.specs.declared.RequestId.{RequestId}
 use Rattle.ids.specs.declared.RegistrationId.{RegistrationId}
@@ -7,7 +7,8 @@ use Rattle.records.specs.declared.BlockTime.{BlockTime}
 use Rattle.records.specs.declared.Principal.{Principal}
 use Rattle.records.specs.declared.Approval.{Approval}
 use Rattle.records.specs.declared.Rejection.{Rejection}
-use Rattle.records.specs.declared.Mark.{Mark}
+use Rattle.records.specs.declared.Decision.{Decision as Made}
+use Rattle.records.specs.declared.Decision.TheVariants as Made
 use Rattle.records.specs.declared.ActionRequest.{ActionRequest}
 use Rattle.records.specs.declared.ApprovalProof.{ApprovalProof}
 use Rattle.machine.specs.Types.{Bytes, Holder, Verdict, Decision, Undecided, Approved, Rejected, Asked}
@@ -42,11 +43,6 @@ no_time = record { height = 0; timestamp_ns = 0 }
 abbrev pub no_verdict : Verdict
 no_verdict = record { key = replicate 32 0; account = 0; number = 0; time = no_time }
 
-abbrev pub mark_of : Decision → Mark
-mark_of Undecided = Mark.Undecided
-mark_of (Approved j v) = Mark.Approved
-mark_of (Rejected v) = Mark.Rejected
-
 abbrev pub approval_by : ℕ → Verdict → Approval
 approval_by j v = record {
   approval_index = j;
@@ -56,11 +52,6 @@ approval_by j v = record {
   approved_at = v.time;
 }
 
-abbrev pub approval_of : Decision → Approval
-approval_of Undecided = approval_by 0 no_verdict
-approval_of (Approved j v) = approval_by j v
-approval_of (Rejected v) = approval_by 0 no_verdict
-
 abbrev pub rejection_by : Verdict → Rejection
 rejection_by v = record {
   approver_account_id = account v.account;
@@ -69,10 +60,11 @@ rejection_by v = record {
   rejected_at = v.time;
 }
 
-abbrev pub rejection_of : Decision → Rejection
-rejection_of Undecided = rejection_by no_verdict
-rejection_of (Approved j v) = rejection_by no_verdict
-rejection_of (Rejected v) = rejection_by v
+-- the one decision, if there is one
+abbrev pub made : Decision → Option Made
+made Undecided = None
+made (Approved j v) = Some (Made.Approved (approval_by j v))
+made (Rejected v) = Some (Made.Rejected (rejection_by v))
 
 -- request n
 abbrev pub request_of : ℕ → Asked → Decision → Texted ActionRequest
@@ -83,9 +75,7 @@ request_of n a d = record {
     agent_key = a.key;
     agent_registration_id = id_of_registration a.number;
     requested_at = a.time;
-    mark = mark_of d;
-    approval = approval_of d;
-    rejection = rejection_of d;
+    decision = made d;
   };
   text = a.text;
 }

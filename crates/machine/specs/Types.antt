@@ -4,7 +4,7 @@ use Rattle.std.specs.Prelude.{ℕ, List}
 use Rattle.std.proofs.Math.Option.{Option}
 use Rattle.records.specs.declared.BlockTime.{BlockTime}
 use Rattle.records.specs.declared.Caller.{Caller}
-use Rattle.records.specs.declared.Role.{Role}
+use Rattle.records.specs.declared.role.Role.{Role}
 
 abbrev pub Bytes : Type 0
 Bytes = List ℕ

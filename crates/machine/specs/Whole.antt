@@ -1,6 +1,6 @@
 -- Worked examples of ours that show whole records: what an accepted change gives, and what the reads then show. Two requests by A, the second approved first, both times and
 -- both registrations different, then A revoked. Assumes nothing.
-use Rattle.std.specs.Prelude.{◌+◌, ℕ, List, [], ◌++◌, ◌∷◌}
+use Rattle.std.specs.Prelude.{◌+◌, ℕ, List, [], ◌++◌, ◌∷◌, Some, None}
 use Rattle.std.proofs.Math.Option.{Option, none, some}
 use Rattle.machine.specs.Examples.{a_asks, add_a, again, cast, key, maxrat, maxrate, signed}
 use Rattle.machine.specs.Machine.{Did, Given, action, opened, principal, proof, run, step}
@@ -12,12 +12,11 @@ use Rattle.records.specs.declared.ActionRequest.{ActionRequest}
 use Rattle.records.specs.declared.Approval.{Approval}
 use Rattle.records.specs.declared.ApprovalProof.{ApprovalProof}
 use Rattle.records.specs.declared.BlockTime.{BlockTime}
-use Rattle.records.specs.declared.Mark.{Mark}
 use Rattle.records.specs.declared.PageEntry.{PageEntry}
+use Rattle.records.specs.declared.Decision.TheVariants as Made
 use Rattle.records.specs.declared.ProofRevocations.{ProofRevocations}
 use Rattle.records.specs.declared.Rejection.{Rejection}
-use Rattle.records.specs.declared.Revocation.{Revocation}
-use Rattle.records.specs.declared.Role.TheVariants.{Agent, Approver}
+use Rattle.records.specs.declared.role.Role.TheVariants.{Agent, Approver}
 use Rattle.records.specs.declared.refusal.Refusal.TheVariants.{PageRoom, RequestNotFound}
 use Rattle.records.specs.declared.status.RequestStatus.{RequestStatus}
 
@@ -59,23 +58,6 @@ given =
     ∷ []
 
 -- ---- the records, field by field
-abbrev pub no_approval : Approval
-no_approval = record {
-  approval_index = 0;
-  approver_account_id = record { 0 = 0 };
-  approver_key = key 0;
-  approver_registration_id = record { 0 = 0 };
-  approved_at = record { height = 0; timestamp_ns = 0 };
-}
-
-abbrev pub no_rejection : Rejection
-no_rejection = record {
-  approver_account_id = record { 0 = 0 };
-  approver_key = key 0;
-  approver_registration_id = record { 0 = 0 };
-  rejected_at = record { height = 0; timestamp_ns = 0 };
-}
-
 abbrev pub undecided_1 : ActionRequest
 undecided_1 = record {
   id = record { 0 = 1 };
@@ -83,9 +65,7 @@ undecided_1 = record {
   agent_key = key 65;
   agent_registration_id = record { 0 = 0 };
   requested_at = record { height = 2; timestamp_ns = 102 };
-  mark = Mark.Undecided;
-  approval = no_approval;
-  rejection = no_rejection;
+  decision = None;
 }
 
 abbrev pub rejected_1 : ActionRequest
@@ -95,14 +75,12 @@ rejected_1 = record {
   agent_key = key 65;
   agent_registration_id = record { 0 = 0 };
   requested_at = record { height = 2; timestamp_ns = 102 };
-  mark = Mark.Rejected;
-  approval = no_approval;
-  rejection = record {
+  decision = Some (Made.Rejected (record {
     approver_account_id = record { 0 = 4 };
     approver_key = key 68;
     approver_registration_id = record { 0 = 3 };
     rejected_at = record { height = 6; timestamp_ns = 106 };
-  };
+  }));
 }
 
 abbrev pub proof_0 : ApprovalProof
@@ -154,8 +132,8 @@ abbrev pub shown : Shown
 shown = record {
   proof_of_0 = some (record { is = proof_0; text = maxrate });
   proof_of_9 = none;
-  revocations_0_1 = record { agent = Revocation.At (record { height = 5; timestamp_ns = 105 }); approver = Revocation.Nothing };
-  revocations_3_9 = record { agent = Revocation.Nothing; approver = Revocation.Nothing };
+  revocations_0_1 = record { agent = Some (record { height = 5; timestamp_ns = 105 }); approver = None };
+  revocations_3_9 = record { agent = None; approver = None };
   page_of_2 = did (
       record {
         slot = 0;

@@ -1,8 +1,7 @@
-// What the scenes of `pump` are made of: who calls, the public calls on tables of the right lengths, what each came to, and its line.
+// What the scenes of `pump` are made of: who calls, a ledger and the public calls on it, and the line that tells what a call came to.
 #![tactic(auto)]
 
-pub mod outcome;
+pub mod desk;
 pub mod people;
 pub mod rounds;
 pub mod tell;
-pub mod tries;

@@ -22,10 +22,9 @@ pub fn c() -> Caller {
     signing(1, [b'C'; 32])
 }
 
-// No two numbers below 65,536 give the same key.
+// No two numbers give the same key.
 pub fn agent(n: u64) -> Caller {
-    let mut key = [0u8; 32];
-    key[0] = (n / 256 % 256) as u8;
-    key[1] = (n % 256) as u8;
+    let mut key = [0; 32];
+    key[..8].copy_from_slice(&n.to_be_bytes());
     signing(1, key)
 }

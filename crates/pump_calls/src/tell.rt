@@ -1,44 +1,44 @@
 // A line for each sentence: its words, what the call answered, and what document 01 says, if that is something else.
-use crate::outcome;
-use crate::outcome::Outcome;
-use records::{Refusal, RequestStatus};
-use std::io;
+use records::Refusal;
+use std::{fmt, io};
 
-fn say_refusal(rt: &impl Print, why: Refusal) -> io::Result<()> {
-    let text = records::refusal_text(why);
-    let bytes = text.bytes;
-    let n = text.len;
-    print!(rt; "{} ", records::number(why))?;
-    rt.write_all(&bytes[..n])
-}
+// The number that an accepted call gave.
+#[derive(Clone, Copy, PartialEq, Eq)]
+pub struct Number(pub u64);
 
-fn say_status(rt: &impl Print, s: RequestStatus) -> io::Result<()> {
-    let text = records::status_name(s);
-    let bytes = text.bytes;
-    let n = text.len;
-    rt.write_all(&bytes[..n])
-}
-
-fn say_outcome(rt: &impl Print, o: Outcome) -> io::Result<()> {
-    match o {
-        Outcome::Accepted(n) => print!(rt; "accepted, number {n}"),
-        Outcome::Refused(why) => say_refusal(rt, why),
-        Outcome::Is(status) => say_status(rt, status),
-        Outcome::Count(n) => print!(rt; "{n}"),
+impl fmt::Display for Number {
+    fn fmt<W: fmt::Write>(&self, f: &mut fmt::Formatter<W>) -> fmt::Result {
+        write!(f, "accepted, number {}", self.0)
     }
 }
 
-pub fn line(rt: &impl Print, sentence: &[u8], got: Outcome, due: Outcome) -> io::Result<()> {
-    rt.write_all(sentence)?;
-    print!(rt; ": ")?;
-    say_outcome(rt, got)?;
-    if !outcome::same(got, due) {
+fn say<T: Copy + fmt::Display>(rt: &impl Print, answer: Result<T, Refusal>) -> io::Result<()> {
+    match answer {
+        Ok(value) => print!(rt; "{value}"),
+        Err(why) => print!(rt; "{} {why}", u64::from(why)),
+    }
+}
+
+pub fn line<T: Copy + PartialEq + fmt::Display>(
+    rt: &impl Print,
+    sentence: &str,
+    got: Result<T, Refusal>,
+    due: Result<T, Refusal>,
+) -> io::Result<()> {
+    print!(rt; "{sentence}: ")?;
+    say(rt, got)?;
+    if got != due {
         print!(rt; "; DOCUMENT 01 SAYS ")?;
-        say_outcome(rt, due)?;
+        say(rt, due)?;
     }
     println!(rt; "")
 }
 
-pub fn refused(rt: &impl Print, sentence: &[u8], got: Outcome, why: Refusal) -> io::Result<()> {
-    line(rt, sentence, got, Outcome::Refused(why))
+pub fn refused<T: Copy + PartialEq + fmt::Display>(
+    rt: &impl Print,
+    sentence: &str,
+    got: Result<T, Refusal>,
+    why: Refusal,
+) -> io::Result<()> {
+    line(rt, sentence, got, Err(why))
 }

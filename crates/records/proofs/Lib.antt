@@ -1,3 +1,2 @@
--- Laws of short texts and of roles.
-pub mod Letters
+-- Laws of roles.
 pub mod Roles

@@ -1,8 +1,8 @@
 -- A role is known by its number. Assumes nothing.
 use mathlib.Core.Path.{◌≡◌, refl, sym, ap, ◌∙◌}
 use Prim.Native.Nat.{ℕ, zero, suc}
-use Rattle.records.specs.declared.Role.{Role}
-use Rattle.records.specs.declared.Role.TheVariants.{Agent, Approver}
+use Rattle.records.specs.declared.role.Role.{Role}
+use Rattle.records.specs.declared.role.Role.TheVariants.{Agent, Approver}
 use Rattle.records.specs.Roles.{role_number, role_of}
 
 pub role_back : (r : Role) → role_of (role_number r) ≡ r

@@ -2,26 +2,16 @@
 #![tactic(auto)]
 
 mod refusal;
+mod role;
 mod status;
-mod text;
-
-ghost use Rattle.std.specs.Prelude.{◌≡◌};
-ghost use Rattle.ids.specs.Decides.{Decides};
-ghost use Rattle.records.specs.Roles.{role_number, role_of};
 
 use ids::{Account, Key, RegistrationId, RequestId};
-pub use refusal::{Refusal, number, refusal_text};
-pub use status::{RequestStatus, status_name};
-pub use text::Text;
-
-#[derive(Clone, Copy)]
-pub enum Role {
-    Agent,
-    Approver,
-}
+pub use refusal::Refusal;
+pub use role::{Role, role_equality};
+pub use status::RequestStatus;
 
 // When a block was made. Any two numbers are a time.
-#[derive(Clone, Copy)]
+#[derive(Clone, Copy, Default)]
 pub struct BlockTime {
     pub height: u64,
     pub timestamp_ns: u64,
@@ -62,15 +52,13 @@ pub struct Rejection {
     pub rejected_at: BlockTime,
 }
 
-// Which of a request's two decisions is there: the source's two `Option`s, of which at most one is ever set.
+// The one decision that a request may have: the source's two `Option`s, of which at most one is ever set.
 #[derive(Clone, Copy)]
-pub enum Mark {
-    Undecided,
-    Approved,
-    Rejected,
+pub enum Decision {
+    Approved(Approval),
+    Rejected(Rejection),
 }
 
-// A request. The decision that `mark` does not name is all zero.
 #[derive(Clone, Copy)]
 pub struct ActionRequest {
     pub id: RequestId,
@@ -78,9 +66,7 @@ pub struct ActionRequest {
     pub agent_key: Key,
     pub agent_registration_id: RegistrationId,
     pub requested_at: BlockTime,
-    pub mark: Mark,
-    pub approval: Approval,
-    pub rejection: Rejection,
+    pub decision: Option<Decision>,
 }
 
 #[derive(Clone, Copy)]
@@ -97,21 +83,15 @@ pub struct ApprovalProof {
     pub approved_at: BlockTime,
 }
 
-// The source's `Option<BlockTime>`.
-#[derive(Clone, Copy)]
-pub enum Revocation {
-    Nothing,
-    At(BlockTime),
-}
-
+// When each of two registrations was revoked, if it was.
 #[derive(Clone, Copy)]
 pub struct ProofRevocations {
-    pub agent: Revocation,
-    pub approver: Revocation,
+    pub agent: Option<BlockTime>,
+    pub approver: Option<BlockTime>,
 }
 
 // One slot of the log, on a page.
-#[derive(Clone, Copy)]
+#[derive(Clone, Copy, Default)]
 pub struct PageEntry {
     pub slot: u64,
     pub request_id: RequestId,
@@ -119,28 +99,4 @@ pub struct PageEntry {
     pub approver_registration_id: RegistrationId,
     pub requested_at: BlockTime,
     pub approved_at: BlockTime,
-}
-
-pub fn number_of_role(r: Role) -> u64
-    ensures { result ≡ role_number r }
-{
-    match r {
-        Role::Agent => 0,
-        Role::Approver => 1,
-    }
-}
-
-pub fn role_by_number(n: u64) -> Role
-    ensures { result ≡ role_of n }
-{
-    if n == 0 {
-        return Role::Agent;
-    }
-    Role::Approver
-}
-
-pub fn same_role(a: Role, b: Role) -> bool
-    ensures { Decides result (a ≡ b) }
-{
-    number_of_role(a) == number_of_role(b)
 }

@@ -1,10 +1,10 @@
 // Where a request stands, and the source's name for it.
-ghost use Rattle.records.specs.Letters.{Says};
+ghost use Rattle.std.specs.Prelude.{◌≡◌, Some};
 ghost use Rattle.records.specs.Statuses.{status_text};
 
-use crate::text::Text;
+use std::fmt;
 
-#[derive(Clone, Copy)]
+#[derive(Clone, Copy, PartialEq, Eq)]
 pub enum RequestStatus {
     Pending,
     Approved,
@@ -12,26 +12,24 @@ pub enum RequestStatus {
     Void,
 }
 
-#[tactic(auto, using(crate::proofs::Letters::said), unfolding(crate::specs::Statuses::status_text))]
-pub fn status_name(s: RequestStatus) -> Text
-    ensures { Says result.bytes result.len (status_text s) }
-{
-    match s {
-        RequestStatus::Pending => Text {
-            bytes: *b"Pending                                         ",
-            len: 7,
-        },
-        RequestStatus::Approved => Text {
-            bytes: *b"Approved                                        ",
-            len: 8,
-        },
-        RequestStatus::Rejected => Text {
-            bytes: *b"Rejected                                        ",
-            len: 8,
-        },
-        RequestStatus::Void => Text {
-            bytes: *b"Void                                            ",
-            len: 4,
-        },
+impl RequestStatus {
+    #[tactic(auto, unfolding(crate::specs::Statuses::status_text))]
+    pub fn name(self) -> &'static str
+        ensures { result.now ≡ status_text self }
+    {
+        match self {
+            RequestStatus::Pending => "Pending",
+            RequestStatus::Approved => "Approved",
+            RequestStatus::Rejected => "Rejected",
+            RequestStatus::Void => "Void",
+        }
+    }
+}
+
+impl fmt::Display for RequestStatus {
+    ghost output = { λ status. Some (status_text status) };
+
+    fn fmt<W: fmt::Write>(&self, f: &mut fmt::Formatter<W>) -> fmt::Result {
+        f.write_str(self.name())
     }
 }

@@ -1,11 +1,12 @@
 -- The lines of any run fit into 2 MiB: at most 4,681 commands of at most 428 bytes of line each, the stopped line and the end line. Assumes nothing.
-use mathlib.Core.Path.{◌≡◌, refl, subst, sym}
+use mathlib.Core.Path.{◌≡◌, subst}
 use mathlib.Core.Bool.{Bool, true, false}
 use mathlib.Core.Option.{Option, none, some}
 use mathlib.Core.List.{List, [], ◌∷◌}
 use Prim.Native.Nat.{◌+◌, ◌*◌, ◌≤◌}
 use native.Mathlib.Omega.{arith}
 use lib.ListN.{length, take, length-append}
+use Rattle.std.proofs.lemmas.Bool.Decides.{nat_tests}
 use Rattle.lists.proofs.Places.{at_nil}
 use Rattle.machine.proofs.Keep.{sound_opened}
 use Rattle.machine.specs.Sound.{Sound}
@@ -73,7 +74,7 @@ lines_whole input {t} out long p = in_full out (output (whole (sized t) input)) 
 -- a program's own tables have the right lengths
 right : (t : Tables) → 1089 ≡ length t.book → 576 ≡ length t.keys → 32768 ≡ length t.texts → sized t ≡ true
 unfolding sized
-right t b k w = rw (sym b, sym k, sym w) refl
+right t b k w = grind (arith, nat_tests)
 
 pub prints : (input : Bytes) (t : Tables) {t' : Tables} (out : Bytes) {out' : Bytes} {r : Ran} → 1089 ≡ length t.book → 576 ≡ length t.keys → 32768 ≡ length t.texts
     → lines_room ≤ length out → Replays input t t' out out' r → Prints input out' r.wrote

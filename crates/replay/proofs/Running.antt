@@ -1,35 +1,32 @@
 -- A run under way goes on as its definition says: a command done, the end met, a fault met. Assumes nothing.
 use mathlib.Core.Path.{◌≡◌, refl, sym, ap, subst, ◌∙◌}
-use mathlib.Core.Bool.{Bool, true, false, cond, false≢true}
+use mathlib.Core.Bool.{true, false}
 use mathlib.Core.Option.{Option, none, some}
 use mathlib.Core.List.{List, [], ◌++◌}
-use Prim.Native.Nat.{ℕ, suc, ◌+◌, ◌-◌, ◌≤◌, ◌<◌}
+use Prim.Native.Nat.{ℕ, suc, ◌-◌, ◌≤◌, ◌<◌}
 use native.Mathlib.Omega.{arith}
 use lib.ListN.{length, take, drop, length-append}
 use lib.Seq.{take-nil, length-take-le}
+use Rattle.std.specs.Prelude.{Option as CodeOption, Some, None}
 use Rattle.io.specs.Counts.{IsPrefixLen}
-use Rattle.lists.specs.Tallies.{bit}
 use Rattle.machine.specs.Types.{Bytes, Ledger}
-use Rattle.tables.specs.Tables.{Tables}
+use Rattle.tables.specs.Tables.{Tables, tables}
 use Rattle.fields.specs.declared.fault.Stop.{Stop}
 use Rattle.fields.specs.declared.fault.Fault.TheVariants.{InputTooLong}
-use Rattle.commands.specs.declared.command.Command.{Command as ReadCommand}
-use Rattle.commands.specs.declared.command.Command.TheVariants as Is
-use Rattle.commands.specs.Answers.{Placed}
-use Rattle.commands.specs.Commands.{Command, Read, open_by, command, end, stopped_by, after, file_by, empty, command_read, read_from, too_long}
+use Rattle.commands.specs.Commands.{Command, open_by, command, end, stopped_by, after, empty, command_read, read_from, too_long}
 use Rattle.commands.proofs.First.{first_opens}
 use Rattle.commands.proofs.Progress.{enough, progress}
 use Rattle.lines.specs.Lines.{Told, counted, line, end_line, no_tally, line_of_stop}
 use Rattle.lines.specs.Output.{Wrote, Appends}
-use Rattle.lines.specs.Replies.{told}
-use Rattle.lines.specs.declared.reply.Reply.{Reply}
+use Rattle.lines.specs.declared.output.Out.{Out}
 use Rattle.lines.specs.declared.tally.Tally.{Tally}
 use Rattle.lines.proofs.Appending.{nothing}
-use Rattle.acts.specs.Acts.{Acts, Inside}
+use Rattle.acts.specs.Acts.{Acts}
 use Rattle.replay.specs.declared.each.Progress.{Progress}
+use Rattle.replay.specs.declared.each.Lent.{Lent}
 use Rattle.replay.specs.declared.file.Ran.{Ran}
-use Rattle.replay.specs.Run.{State, Ends, Replays, acted, one, output, sized, start, stopping, through, whole}
-use Rattle.replay.specs.Steps.{Begins, Coming, Going, Held, Steps}
+use Rattle.replay.specs.Run.{Ends, Replays, acted, one, sized, start, stopping, through, whole}
+use Rattle.replay.specs.Steps.{Begins, Coming, Going, Keeps, Onward, Steps, lent}
 use Rattle.replay.proofs.Standing.{command_done}
 
 -- ---- the file, from a place on
@@ -38,137 +35,99 @@ module _ (input : Bytes) (at : ℕ) where
   unfolding read_from
   reads_on c next e =
       let p = progress input at c next e in
-      ap (λ (r : Read). file_by r (λ n. read_from (length input) input n)) e
-      ∙ ap (after c) (enough (length input) (suc (length input)) input next (omega (arith, p.0)) (omega (arith, p.0)))
+      rw e (ap (after c) (enough (length input) (suc (length input)) input next (omega (arith, p.0)) (omega (arith, p.0))))
 
   reads_end : command_read input at ≡ end → read_from (suc (length input)) input at ≡ empty none
   unfolding read_from
-  reads_end e = ap (λ (r : Read). file_by r (λ n. read_from (length input) input n)) e
+  reads_end e = rw e refl
 
   reads_stop : (s : Stop) → command_read input at ≡ stopped_by s.fault s.place → read_from (suc (length input)) input at ≡ empty (some s)
   unfolding read_from
-  reads_stop s e = ap (λ (r : Read). file_by r (λ n. read_from (length input) input n)) e
-
--- a command's text lies in the input
-pub inside : (from next n : ℕ) (c : ReadCommand) → Placed from next c → next ≤ n → Inside n c
-inside from next n (Is.Open a) p h = tt
-inside from next n (Is.Add c) p h = tt
-inside from next n (Is.Revoke c) p h = tt
-inside from next n (Is.Request c) p h = omega (arith, p.1)
-inside from next n (Is.Approve c) p h = omega (arith, p.1)
-inside from next n (Is.Reject c) p h = tt
-inside from next n (Is.Status m) p h = tt
-inside from next n (Is.Page c) p h = tt
-
--- a page counts alike whatever its entries are
-pub page_counts : (r : Reply) (requests : List ℕ) (t : Tally) → counted (told r []) t ≡ counted (told r requests) t
-unfolding counted
-page_counts Reply.Done requests t = refl
-page_counts (Reply.Number n) requests t = refl
-page_counts (Reply.Page k) requests t = refl
-page_counts (Reply.Status s) requests t = refl
-page_counts (Reply.Refused e) requests t = refl
-
-abbrev at_work : Tally → ℕ → ℕ → Progress
-at_work tally at wrote = record { tally = tally; at = at; wrote = wrote; more = true }
+  reads_stop s e = rw e refl
 
 -- ---- a command done
-module _ (input : Bytes) {t t' : Tables} {out out' : Bytes} {tally : Tally} {at wrote : ℕ} (c : Command) (w : Told) {next wrote' : ℕ} {tally' : Tally}
-    (read : command_read input at ≡ command c next) (acts : Acts c t t' w) (says : Appends (line tally.commands w) out wrote out' wrote') (counts : tally' ≡ counted w tally) where
-  on_goes : (t₀ : Tables) (out₀ : Bytes) → Going input t₀ t out₀ out (at_work tally at wrote) → Going input t₀ t' out₀ out' (at_work tally' next wrote')
-  on_goes t₀ out₀ g =
+module _ (input : Bytes) {t t' : Tables} {o o' : Out} {tally : Tally} {at : ℕ} (c : Command) (w : Told) {next : ℕ}
+    (read : command_read input at ≡ command c next) (acts : Acts c t t' w) (says : Appends (line tally.commands w) o o') where
+  pub went_on : (t₀ : Tables) (out₀ : Bytes) → Going input t₀ t out₀ o (record { tally = tally; next = Some at }) → Going input t₀ t' out₀ o' (record { tally = counted w tally; next = Some next })
+  went_on t₀ out₀ g =
       let s = g.state in
       let far = progress input at c next read in
       let first : at ≡ 0 → (owner : ℕ) × (c ≡ open_by owner) = λ z. first_opens input c next (subst (λ (n : ℕ). command_read input n ≡ command c next) z read) in
-      let d = command_done t₀ t t' at next (λ z. omega (arith, far.0)) w c s.held g.tables first acts in
+      let d = command_done t₀ t t' at next (λ z. omega (arith, far.0)) w c s.held g.coming.1 first acts in
       let a = acted (sized t₀) c s.held in
       let same : ◌≡◌ {A = Bytes} (line tally.commands w) (line s.tally.commands a.told) = (λ i. line (g.tally i).commands (d.told_as i)) in
       record {
         state = one (sized t₀) c s;
-        lines = subst (λ (x : Bytes). Wrote out₀ (s.text ++ x) out' wrote') same (says.then out₀ s.text g.lines);
-        tally = counts ∙ (λ i. counted (d.told_as i) (g.tally i));
-        tables = d.held_then;
-        coming = g.coming ∙ ap (λ f. through (sized t₀) f s) (reads_on input at c next read);
+        lines = subst (λ (x : Bytes). Wrote out₀ (s.text ++ x) o'.row.now o'.at) same (says.then out₀ s.text g.lines);
+        tally = (λ i. counted (d.told_as i) (g.tally i));
+        coming = (g.coming.0 ∙ ap (λ f. through (sized t₀) f s) (reads_on input at c next read), d.held_then, far.1);
       }
 
-  pub went_on : Steps input t t' out out' (at_work tally at wrote) (at_work tally' next wrote')
-  went_on = record { goes = λ t₀ out₀ m g. on_goes t₀ out₀ g; onward = λ m. let p = progress input at c next read in (omega (arith, p.0), p.1); still = λ m. absurd (false≢true (sym m)) }
-
-abbrev at_rest : Tally → ℕ → ℕ → Progress
-at_rest tally at wrote = record { tally = tally; at = at; wrote = wrote; more = false }
-
 -- ---- the end, and a fault
-module _ (input : Bytes) {t : Tables} {out out' : Bytes} {tally : Tally} {at wrote wrote' : ℕ} (stop : Option Stop)
-    (read : read_from (suc (length input)) input at ≡ empty stop) (says : Appends (line_of_stop stop) out wrote out' wrote') where
-  pub stopped_there : Steps input t t out out' (at_work tally at wrote) (at_rest tally at wrote')
-  stopped_there = record {
-    goes = λ t₀ out₀ m g.
-        record {
-          state = stopping (line_of_stop stop) g.state;
-          lines = says.then out₀ g.state.text g.lines;
-          tally = g.tally;
-          tables = g.tables;
-          coming = g.coming ∙ ap (λ f. through (sized t₀) f g.state) read;
-        };
-    onward = λ m. absurd (false≢true m);
-    still = λ m. refl;
+module _ (input : Bytes) {t : Tables} {o o' : Out} {tally : Tally} {at : ℕ} (stop : Option Stop)
+    (read : read_from (suc (length input)) input at ≡ empty stop) (says : Appends (line_of_stop stop) o o') where
+  stopped_there : (t₀ : Tables) (out₀ : Bytes) → Going input t₀ t out₀ o (record { tally = tally; next = Some at }) → Going input t₀ t out₀ o' (record { tally = tally; next = None })
+  stopped_there t₀ out₀ g = record {
+    state = stopping (line_of_stop stop) g.state;
+    lines = says.then out₀ g.state.text g.lines;
+    tally = g.tally;
+    coming = (g.coming.0 ∙ ap (λ f. through (sized t₀) f g.state) read, g.coming.1.ends);
   }
 
-silent : {out : Bytes} {n : ℕ} → Appends (line_of_stop none) out n out n
+-- nothing is said at the end
+silent : (o : Out) → Appends (line_of_stop none) o o
 unfolding line_of_stop
-silent {out} {n} = nothing out n
+silent o = nothing o
 
-pub ended_there : (input : Bytes) {t : Tables} {out : Bytes} {tally : Tally} {at wrote : ℕ} → command_read input at ≡ end → Steps input t t out out (at_work tally at wrote) (at_rest tally at wrote)
-ended_there input {at = at} e = stopped_there input none (reads_end input at e) silent
+module _ (input : Bytes) {t : Tables} {o : Out} {tally : Tally} {at : ℕ} where
+  pub ended_there : command_read input at ≡ end → (t₀ : Tables) (out₀ : Bytes) → Going input t₀ t out₀ o (record { tally = tally; next = Some at })
+      → Going input t₀ t out₀ o (record { tally = tally; next = None })
+  ended_there e = stopped_there input none (reads_end input at e) (silent o)
 
-pub fault_there : (input : Bytes) {t : Tables} {out out' : Bytes} {tally : Tally} {at wrote wrote' : ℕ} (s : Stop) → command_read input at ≡ stopped_by s.fault s.place
-    → Appends (line_of_stop (some s)) out wrote out' wrote' → Steps input t t out out' (at_work tally at wrote) (at_rest tally at wrote')
-fault_there input {at = at} s e says = stopped_there input (some s) (reads_stop input at s e) says
+  pub fault_there : {o' : Out} (s : Stop) → command_read input at ≡ stopped_by s.fault s.place → Appends (line_of_stop (some s)) o o'
+      → (t₀ : Tables) (out₀ : Bytes) → Going input t₀ t out₀ o (record { tally = tally; next = Some at }) → Going input t₀ t out₀ o' (record { tally = tally; next = None })
+  fault_there s e says = stopped_there input (some s) (reads_stop input at s e) says
 
 -- ---- the start
-not_started : (t : Tables) → Held t t 0 none
-not_started t = record { ends = refl; present_then = λ n _. absurd (n refl); unsized = λ _. refl }
-
 unwritten : (out : Bytes) → Wrote out [] out 0
 unwritten out = let e = take-nil {A = ℕ} (length out) in record { bytes = ap (λ (x : Bytes). x ++ out) (sym e); count = ap length (sym e) }
 
 abbrev too_long_stop : Stop
 too_long_stop = record { fault = InputTooLong; place = 0 }
 
-pub begun : (input out : Bytes) → too_long input ≡ false → Begins input out out (at_work no_tally 0 0)
+pub begun : (input : Bytes) (o : Out) (tally : Tally) → tally ≡ no_tally → too_long input ≡ false → Begins input o o (record { tally = tally; next = Some 0 })
 unfolding whole
-begun input out e = record {
-  goes = λ t₀.
-      record { state = start; lines = unwritten out; tally = refl; tables = not_started t₀; coming = ap (λ (b : Bool). through (sized t₀) (cond b (empty (some too_long_stop)) (read_from (suc (length input)) input 0)) start) e };
-  onward = omega arith;
+begun input o tally z e = record {
+  row = refl;
+  goes = λ t front.
+      record {
+        state = start;
+        lines = rw front (unwritten o.row.now);
+        tally = z;
+        coming = (rw e refl, record { ends = refl; present_then = λ n _. absurd (n refl); unsized = λ _. refl }, omega arith);
+      };
 }
 
-pub never_begun : (input : Bytes) {out out' : Bytes} {wrote : ℕ} → too_long input ≡ true → Appends (line_of_stop (some too_long_stop)) out 0 out' wrote → Begins input out out' (at_rest no_tally 0 wrote)
+pub never_begun : (input : Bytes) (o o' : Out) (tally : Tally) → tally ≡ no_tally → too_long input ≡ true → Appends (line_of_stop (some too_long_stop)) o o'
+    → Begins input o o' (record { tally = tally; next = None })
 unfolding whole
-never_begun input {out} e says = record {
-  goes = λ t₀.
+never_begun input o o' tally z e says = record {
+  row = says.row;
+  goes = λ t front.
       record {
         state = stopping (line_of_stop (some too_long_stop)) start;
-        lines = says.then out [] (unwritten out);
-        tally = refl;
-        tables = not_started t₀;
-        coming = ap (λ (b : Bool). through (sized t₀) (cond b (empty (some too_long_stop)) (read_from (suc (length input)) input 0)) start) e;
+        lines = says.then o.row.now [] (rw front (unwritten o.row.now));
+        tally = z;
+        coming = (rw e refl, refl);
       };
-  onward = omega arith;
 }
 
 -- ---- the end
-pub ran : (input : Bytes) {t t' : Tables} {out o out' : Bytes} (p : Progress) {r : Ran} → p.more ≡ false → Going input t t' out o p → Appends (end_line p.tally) o p.wrote out' r.wrote
-    → r.tally ≡ p.tally → Replays input t t' out out' r
-ran input {t} {t'} {out} {o} {out'} p {r} e g says same =
-    let c : whole (sized t) input ≡ g.state = subst (λ (b : Bool). Coming (sized t) input p b g.state) e g.coming in
-    record {
-      lines =
-          subst (λ (s : State). Wrote out (output s) out' r.wrote) (sym c)
-          (subst (λ (x : Tally). Wrote out (g.state.text ++ end_line x) out' r.wrote) g.tally (says.then out g.state.text g.lines));
-      tally = same ∙ g.tally ∙ ap (λ (s : State). s.tally) (sym c);
-      tables = subst (λ (s : State). Ends t t' s.held) (sym c) g.tables.ends;
-    }
+pub ran : (input : Bytes) {t t' : Tables} {out : Bytes} {o o' : Out} (p : Progress) → p.next ≡ None → Going input t t' out o p → Appends (end_line p.tally) o o'
+    → Replays input t t' out o'.row.now (record { tally = p.tally; wrote = o'.at })
+ran input {t} {t'} {out} p e g says =
+    let c = subst (λ (n : CodeOption ℕ). Coming input t t' n g.state) e g.coming in
+    record { lines = rw (c.0, ← g.tally) (says.then out g.state.text g.lines); tally = rw c.0 g.tally; tables = rw c.0 c.1 }
 
 -- as a caller's `&out[..wrote]` asks
 pub wrote_counts : (was text : Bytes) {out : Bytes} {n : ℕ} → Wrote was text out n → IsPrefixLen n out
@@ -176,36 +135,39 @@ wrote_counts was text {out} {n} w =
     let within : n ≤ length out = omega (arith, w.count, ap length w.bytes, length-append (take (length was) text) (drop (length text) was)) in
     (within, sym (length-take-le n out within))
 
--- ---- a loop of steps
-pub record Since (input : Bytes) (t t' : Tables) (out out' : Bytes) (p p' : Progress) : Type 0 where
-  pub goes : (t₀ : Tables) (out₀ : Bytes) → Going input t₀ t out₀ out p → Going input t₀ t' out₀ out' p'
-  pub within : p'.at ≤ length input
+-- what was lent comes back as it then stands
+pub came_back : (a : Lent) {input : Bytes} {t : Tables} {out o o' x : Bytes} {b k : List (List ℕ)} {r : Ran} → Replays input t (lent a) out o' r
+    → b ≡ a.book.now → k ≡ a.keys.now → x ≡ a.texts.now → o ≡ o' → Replays input t (tables b k x) out o r
+came_back a p e f g h = rw (e, f, g, h) p
 
-pub since_start : (input : Bytes) {t : Tables} {out : Bytes} {p : Progress} → p.at ≤ length input → Since input t t out out p p
-since_start input h = record { goes = λ t₀ out₀ g. g; within = h }
+-- ---- the loop of steps: the run goes on, on what it was lent
+pub record Under (input : Bytes) (t₀ : Tables) (out₀ : Bytes) (a b : Lent) (o o' : Out) (p : Progress) : Type 0 where
+  pub keeps : Keeps a b
+  pub row : o'.row.ghost_name ≡ o.row.ghost_name
+  pub going : Going input t₀ (lent b) out₀ o' p
 
--- as the code calls a step
-abbrev going_on : Progress → Progress
-going_on p = at_work p.tally p.at p.wrote
+abbrev pub left : ℕ → CodeOption ℕ → ℕ
+left n (Some at) = suc (n - at)
+left n None = 0
 
-module _ (input : Bytes) {t u v : Tables} {out o x : Bytes} {p q r : Progress} (more : q.more ≡ true) (since : Since input t u out o p q) (s : Steps input u v o x (going_on q) r) where
-  as_work : {t₀ : Tables} {out₀ : Bytes} → Going input t₀ u out₀ o q → Going input t₀ u out₀ o (going_on q)
-  as_work {t₀} {out₀} g = subst (λ (b : Bool). Going input t₀ u out₀ o (record { tally = q.tally; at = q.at; wrote = q.wrote; more = b })) more g
+module _ (input : Bytes) {t₀ : Tables} {out₀ : Bytes} {a b c : Lent} {o o' o'' : Out} {p q : Progress} {at : ℕ}
+    (more : p.next ≡ Some at) (u : Under input t₀ out₀ a b o o' p) (s : Steps input b c o' o'' p.tally at q) where
+  here : Going input t₀ (lent b) out₀ o' (record { tally = p.tally; next = Some at })
+  here = subst (λ (n : CodeOption ℕ). Going input t₀ (lent b) out₀ o' (record { tally = p.tally; next = n })) more u.going
 
-  place : (b : Bool) → r.more ≡ b → r.at ≤ length input
-  place true e = (s.onward e).1
-  place false e = omega (arith, s.still e, since.within)
-
-  pub since_more : Since input t v out x p r
-  since_more = record { goes = λ t₀ out₀ g. s.goes t₀ out₀ refl (as_work (since.goes t₀ out₀ g)); within = place r.more refl }
+  pub under_more : Under input t₀ out₀ a c o o'' q
+  under_more =
+      let k = u.keeps in
+      let m = s.keeps in
+      record { keeps = record { book = m.book ∙ k.book; keys = m.keys ∙ k.keys; texts = m.texts ∙ k.texts }; row = s.row ∙ u.row; going = s.goes t₀ out₀ here }
 
   -- it ends: each step reads on, or is the last
-  pub nearer : length input - r.at + bit r.more < length input - q.at + bit q.more
-  nearer = rw more (go r.more refl)
+  pub nearer : left (length input) q.next < left (length input) p.next
+  nearer = rw more (go q.next s.onward)
     where
-      go : (b : Bool) → r.more ≡ b → length input - r.at + bit b < length input - q.at + 1
-      go true e = let f = s.onward e in omega (arith, f.0, f.1, since.within)
-      go false e = omega (arith, s.still e, since.within)
+      go : (n : CodeOption ℕ) → Onward (length input) at n → left (length input) n < suc (length input - at)
+      go (Some next) o = omega (arith, o.0, o.1)
+      go None o = omega arith
 
 -- ---- any two outcomes that the promise allows are the same
 ends_same : (t : Tables) {u v : Tables} (h : Option Ledger) → Ends t u h → Ends t v h → u ≡ v

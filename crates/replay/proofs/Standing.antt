@@ -1,12 +1,12 @@
 -- What one command does to the tables of a run, and what it is told, is what the run's definition says. Assumes nothing.
 use mathlib.Core.Path.{◌≡◌, refl, sym, subst, ◌∙◌}
-use mathlib.Core.Bool.{Bool, true, false, ◌&&◌, false≢true}
+use mathlib.Core.Bool.{Bool, true, false, false≢true}
 use mathlib.Core.Logic.{◌⊎◌, inl, inr}
 use mathlib.Core.Option.{Option, none, some}
 use Prim.Native.Nat.{ℕ}
 use lib.Dec.{eqb}
-use lib.ListN.{length}
-use borrow.Author.Tests.{eqb-true, eqb-false, eq-eqb}
+use borrow.Author.Tests.{eqb-true, eqb-false}
+use Rattle.std.proofs.lemmas.Bool.Decides.{nat_tests}
 use native.Mathlib.Omega.{arith}
 use Rattle.records.specs.declared.refusal.Refusal.TheVariants.{Damaged}
 use Rattle.machine.specs.Machine.{opened}
@@ -22,21 +22,13 @@ use Rattle.replay.specs.Run.{Ends, acted, on, opening, sized}
 use Rattle.replay.specs.Steps.{Held}
 
 -- ---- lengths
-both : (a b : Bool) → a && b ≡ true → (a ≡ true) × (b ≡ true)
-both true b e = (refl, e)
-both false b e = absurd (false≢true e)
-
 pub sized_then : (t : Tables) → sized t ≡ true → Sized t
 unfolding sized
-sized_then t e =
-    let p = both (eqb (length t.book) 1089 && eqb (length t.keys) 576) (eqb (length t.texts) 32768) e in
-    let q = both (eqb (length t.book) 1089) (eqb (length t.keys) 576) p.0 in
-    record { book_long = eqb-true (length t.book) 1089 q.0; keys_long = eqb-true (length t.keys) 576 q.1; texts_long = eqb-true (length t.texts) 32768 p.1 }
+sized_then t e = record { book_long = grind (arith, nat_tests); keys_long = grind (arith, nat_tests); texts_long = grind (arith, nat_tests) }
 
 pub sized_not : (t : Tables) → sized t ≡ false → Sized t → ⊥
 unfolding sized
-sized_not t e s =
-    false≢true (sym e ∙ rw (eq-eqb (length t.book) 1089 s.book_long, eq-eqb (length t.keys) 576 s.keys_long, eq-eqb (length t.texts) 32768 s.texts_long))
+sized_not t e s = grind (arith, nat_tests)
 
 stands_sized : {t : Tables} {L : Ledger} → Stands t L → Sized t
 stands_sized {L = L} s = (fits_standing (record { ledger = L; stands = s })).sized
@@ -91,12 +83,9 @@ module _ (t₀ t t' : Tables) (place next : ℕ) (past : next ≡ 0 → ⊥) (w 
 
     fit : (c : Command) (h : Option Ledger) → Ends t₀ t h → (present h ≡ true) ⊎ ((owner : ℕ) × (c ≡ open_by owner)) → Acts c t t' w → Done t₀ t' next c h w
     fit (open_by owner) h e o a = opened_now owner h e a
-    fit (change x) h e (inl p) a = done_on (change x) (λ h. refl) a h e p
-    fit (change x) h e (inr o) a = let z : ◌≡◌ {A = ℕ} 0 1 = let q = o.1 in cc in absurd (omega arith)
-    fit (status_of n) h e (inl p) a = done_on (status_of n) (λ h. refl) a h e p
-    fit (status_of n) h e (inr o) a = let z : ◌≡◌ {A = ℕ} 0 1 = let q = o.1 in cc in absurd (omega arith)
-    fit (page_from from limit) h e (inl p) a = done_on (page_from from limit) (λ h. refl) a h e p
-    fit (page_from from limit) h e (inr o) a = let z : ◌≡◌ {A = ℕ} 0 1 = let q = o.1 in cc in absurd (omega arith)
+    fit (change x) h e o a = done_on (change x) (λ h. refl) a h e (grind arith)
+    fit (status_of n) h e o a = done_on (status_of n) (λ h. refl) a h e (grind arith)
+    fit (page_from from limit) h e o a = done_on (page_from from limit) (λ h. refl) a h e (grind arith)
 
   -- ---- THE LAW: what is told, and what then stands
   pub command_done : (c : Command) (h : Option Ledger) → Held t₀ t place h → (place ≡ 0 → (owner : ℕ) × (c ≡ open_by owner)) → Acts c t t' w → Done t₀ t' next c h w

@@ -4,11 +4,10 @@ ghost use Rattle.tables.specs.Tables.{tables};
 ghost use Rattle.replay.specs.Run.{Replays};
 ghost use Rattle.replay.specs.Steps.{Begins};
 
-use crate::each::Progress;
-use crate::lent::advance;
+use crate::each::{Lent, Progress};
 use commands::too_long;
 use fields::{Fault, Stop};
-use lines::{Tally, end_line, stopped_line};
+use lines::{Out, Tally};
 
 // A run's tally, and how many bytes of its lines are written.
 #[derive(Clone, Copy)]
@@ -18,36 +17,25 @@ pub struct Ran {
 }
 
 // The run's start: an input above the room is stopped at once.
-fn first(input: &[u8], out: &mut [u8]) -> Progress
-    ensures { Begins input.now out.old out.new result }
+fn first(input: &[u8], lines: &mut Out<'_>) -> Progress
+    ensures { Begins input.now lines.old lines.new result }
 {
-    let tally = Tally {
-        commands: 0,
-        accepted: 0,
-        refused: 0,
-    };
+    let tally = Tally::default();
     if too_long(input) {
-        let stop = Stop {
+        lines.stopped_line(Stop {
             fault: Fault::InputTooLong,
             place: 0,
-        };
-        let wrote = stopped_line(out, 0, stop);
-        return Progress {
-            tally,
-            at: 0,
-            wrote,
-            more: false,
-        };
+        });
+        return Progress { tally, next: None };
     }
     Progress {
         tally,
-        at: 0,
-        wrote: 0,
-        more: true,
+        next: Some(0),
     }
 }
 
-// The lines go to the front of `out`; what passes its end is left out.
+// The lines go to the front of `out`; what passes its end is left out. Tables and row come one by one, as C lends them.
+#[tactic(auto, using(crate::proofs::Running::under_more, crate::proofs::Running::nearer))]
 pub fn run(
     book: &mut [[u64; 6]],
     keys: &mut [[u8; 32]],
@@ -61,11 +49,15 @@ pub fn run(
         out.old out.new result }
     ensures prefix_len { IsPrefixLen result.wrote out.new }
 {
-    let mut p = first(input, out);
-    while p.more {
-        p = advance(book, keys, texts, input, out, p);
+    let mut tables = Lent { book, keys, texts };
+    let mut lines = Out { row: out, at: 0 };
+    let mut p = first(input, &mut lines);
+    while let Some(at) = p.next {
+        p = tables.advance(input, &mut lines, p.tally, at);
     }
-    let wrote = end_line(out, p.wrote, p.tally);
-    let tally = p.tally;
-    Ran { tally, wrote }
+    lines.end_line(p.tally);
+    Ran {
+        tally: p.tally,
+        wrote: lines.at,
+    }
 }

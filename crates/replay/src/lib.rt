@@ -5,5 +5,4 @@ mod each;
 mod file;
 mod lent;
 
-pub use each::Progress;
 pub use file::{Ran, run};

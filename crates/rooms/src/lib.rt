@@ -1,38 +1,42 @@
-// What programs read into: arrays of zeros for them to lend, and the reading. A promise gives the length alone, which lending a slice needs; so no proof spells the zeros out.
+// What programs read into: a ledger's tables and rows of zeros, for them to lend, and the reading.
 #![tactic(auto)]
 
 pub mod reading;
 
 ghost use Rattle.std.specs.Prelude.{◌≡◌, length};
 
-pub fn book() -> [[u64; 6]; 1089]
-    ensures { 1089 ≡ length result }
+// The promise gives the length alone, which lending a slice needs; so no proof spells the zeros out.
+pub fn zeros<T: Copy, const N: usize>(zero: T) -> [T; N]
+    ensures { N ≡ length result }
 {
-    [[0; 6]; 1089]
+    [zero; N]
 }
 
-pub fn keys() -> [[u8; 32]; 576]
-    ensures { 576 ≡ length result }
-{
-    [[0; 32]; 576]
+// A ledger's tables.
+#[derive(Drop)]
+pub struct Tables {
+    pub book: [[u64; 6]; 1089],
+    pub keys: [[u8; 32]; 576],
+    pub texts: [u8; 32768],
 }
 
-pub fn texts() -> [u8; 32768]
-    ensures { 32768 ≡ length result }
-{
-    [0; 32768]
-}
-
-// One byte more than a command file may have, so that a longer one is seen to be.
-pub fn input() -> [u8; 65537]
-    ensures { 65537 ≡ length result }
-{
-    [0; 65537]
+impl Tables {
+    pub fn new() -> Tables
+        ensures book { 1089 ≡ length result.book }
+        ensures keys { 576 ≡ length result.keys }
+        ensures texts { 32768 ≡ length result.texts }
+    {
+        Tables {
+            book: zeros([0; 6]),
+            keys: zeros([0; 32]),
+            texts: zeros(0),
+        }
+    }
 }
 
 // 2 MiB hold the lines of every command file.
 pub fn lines() -> [u8; 2097152]
     ensures { 2097152 ≡ length result }
 {
-    [0; 2097152]
+    zeros(0)
 }

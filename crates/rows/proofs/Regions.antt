@@ -4,21 +4,21 @@ use mathlib.Core.Path.{◌≡◌, refl, sym, ap, ◌∙◌}
 use mathlib.Core.List.{List, [], ◌∷◌, ◌++◌, map, append_assoc}
 use native.Mathlib.Omega.{arith}
 use lib.ListN.{length, get_or, take, drop, set, length-append, length-drop, length-map, length-set, get_or-map}
-use lib.Seq.{take-append-add, drop-append-add, take-append_seam, drop-append_seam, drop-drop, take-add, take_all, length-take-le, get_or-take, get_or-drop, map-set_same}
+use lib.Seq.{take-append-add, drop-append-add, take-append_seam, drop-append_seam, drop-drop, take-add, take_all, length-take-le, map-set_same}
 use borrow.Rule.Slice.PartMut.{put_mid, set_mid_at}
-use Rattle.lists.proofs.Getting.{parts_equal, map_take}
-use Rattle.rows.specs.Regions.{sum, flat, region, regions, Holds}
+use Rattle.lists.proofs.Getting.{map_take}
+use Rattle.std.specs.Prelude.{sum}
+use Rattle.std.proofs.lemmas.List.Sums.{sum_by-cons}
+use Rattle.rows.specs.Regions.{flat, regions, Holds}
 
-sum_part : (ss : List ℕ) (i : ℕ) → i < length ss → sum (take i ss) + get_or ss i 0 ≤ sum ss
-sum_part [] i h = absurd (omega arith)
-sum_part (s ∷ ss) zero h = omega arith
-sum_part (s ∷ ss) (suc i) h = omega (arith, sum_part ss i (omega arith))
+sum-cons : (s : ℕ) (ss : List ℕ) → sum (s ∷ ss) ≡ s + sum ss
+sum-cons = sum_by-cons (λ (x : ℕ). x)
 
 module _ {A : Type 0} where
   -- ---- the tables by themselves, with no list of lengths
   pub length_flat : (rs : List (List A)) → length (flat rs) ≡ sum (map length rs)
   length_flat [] = refl
-  length_flat (r ∷ rs) = length-append r (flat rs) ∙ ap (λ (m : ℕ). length r + m) (length_flat rs)
+  length_flat (r ∷ rs) = length-append r (flat rs) ∙ ap (λ (m : ℕ). length r + m) (length_flat rs) ∙ sym (sum-cons (length r) (map length rs))
 
   -- table i is lent
   lend : (rs : List (List A)) (i : ℕ) → i < length rs → take (length (get_or rs i [])) (drop (length (flat (take i rs))) (flat rs)) ≡ get_or rs i []
@@ -35,21 +35,6 @@ module _ {A : Type 0} where
       rw (length-append, drop-append-add, take-append-add)
       (append_assoc r (take (length (flat (take i rs))) (flat rs)) (q ++ drop (length (get_or rs i [])) (drop (length (flat (take i rs))) (flat rs)))
       ∙ ap (λ (l : List A). r ++ l) (back rs i q (omega arith)))
-
-  -- the list tells the tables
-  pub flat_injective : (rs qs : List (List A)) → map length rs ≡ map length qs → flat rs ≡ flat qs → rs ≡ qs
-  flat_injective [] [] e p = refl
-  flat_injective [] (q ∷ qs) e p = absurd (omega (arith, ap length e))
-  flat_injective (r ∷ rs) [] e p = absurd (omega (arith, ap length e))
-  flat_injective (r ∷ rs) (q ∷ qs) e p =
-      let one : length r ≡ length q = cc in
-      let rest : map length rs ≡ map length qs = cc in
-      let both = parts_equal r q one p in
-      let tail = flat_injective rs qs rest both.1 in
-      λ i. both.0 i ∷ tail i
-
-  pub holds_once : {ss : List ℕ} {n : List A} {rs qs : List (List A)} → Holds ss n rs → Holds ss n qs → rs ≡ qs
-  holds_once {rs = rs} {qs} h g = flat_injective rs qs (h.long ∙ sym g.long) (sym h.is ∙ g.is)
 
   pub holds_long : {ss : List ℕ} {n : List A} {rs : List (List A)} → Holds ss n rs → length n ≡ sum ss
   holds_long {rs = rs} h = ap length h.is ∙ length_flat rs ∙ ap sum h.long
@@ -70,17 +55,6 @@ module _ {A : Type 0} where
       pub region_is : take len (drop start n) ≡ get_or rs i []
       region_is = rw (h.is, s, e, ← starts, ← region_long) (lend rs i in_rs)
 
-      pub region_fits : start + len ≤ length n
-      region_fits = let g = holds_long h in omega (arith, sum_part ss i l)
-
-      -- an entry is the table's
-      pub region_read : (p k : ℕ) (d : A) → p ≡ start + k → k < len → get_or n p d ≡ get_or (get_or rs i []) k d
-      region_read p k d q g =
-          ap (λ (m : ℕ). get_or n m d) q
-          ∙ sym (get_or-drop start n k d)
-          ∙ sym (get_or-take len (drop start n) k d g)
-          ∙ ap (λ (r : List A). get_or r k d) region_is
-
       -- a part that was lent comes back as q
       pub region_put : (q : List A) → length q ≡ len → Holds ss (put_mid start len n q) (set rs i q)
       region_put q g = record {
@@ -100,17 +74,15 @@ module _ {A : Type 0} where
           let put = region_put (set (get_or rs i []) k x) (length-set (get_or rs i []) k x ∙ long) in
           record { is = sym m ∙ put.is; long = put.long }
 
-    pub region_of : region ss i n ≡ get_or rs i []
-    region_of = region_is (sum (take i ss)) (get_or ss i 0) refl refl
-
   -- ---- a list of the right length is its tables
   flat_regions : (a : ℕ) (ss : List ℕ) (n : List A) → flat (regions a ss n) ≡ take (sum ss) (drop a n)
   flat_regions a [] n = refl
-  flat_regions a (s ∷ ss) n = rw (flat_regions (a + s) ss n, ← drop-drop) (sym (take-add s (sum ss) (drop a n)))
+  flat_regions a (s ∷ ss) n = rw (sum-cons s ss, flat_regions (a + s) ss n, ← drop-drop) (sym (take-add s (sum ss) (drop a n)))
 
   long_regions : (a : ℕ) (ss : List ℕ) (n : List A) → a + sum ss ≤ length n → map length (regions a ss n) ≡ ss
   long_regions a [] n h = refl
   long_regions a (s ∷ ss) n h =
+      let c = sum-cons s ss in
       rw (long_regions (a + s) ss n (omega arith)) (ap (λ (m : ℕ). m ∷ ss) (length-take-le s (drop a n) (simp length-drop (omega arith))))
 
   pub holds : (ss : List ℕ) (n : List A) → length n ≡ sum ss → Holds ss n (regions 0 ss n)

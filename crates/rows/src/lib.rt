@@ -4,10 +4,3 @@
 pub mod change;
 pub mod compare;
 pub mod search;
-
-// Where a search ended.
-#[derive(Clone, Copy)]
-pub enum Found {
-    At(usize),
-    Nothing,
-}

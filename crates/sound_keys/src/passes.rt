@@ -9,26 +9,14 @@ pub fn holders_fit(holders: &[[u64; 6]], n: usize, made: u64, requests: u64) -> 
     requires { n ≤ length holders.now }
     ensures { Decides result (HoldersFit n made requests holders.now) }
 {
-    let mut i = 0;
-    while i < n {
-        if !holder_fits(holders[i], made, requests) {
-            return false;
-        }
-        i += 1;
-    }
-    true
+    holders[..n]
+        .iter()
+        .all(|row| holder_fits(*row, made, requests))
 }
 
 pub fn all_revoked_fit(revoked: &[[u64; 6]], made: usize) -> bool
     requires { made ≤ length revoked.now }
     ensures { Decides result (AllRevokedFit made revoked.now) }
 {
-    let mut g = 0;
-    while g < made {
-        if !revoked_fits(revoked[g]) {
-            return false;
-        }
-        g += 1;
-    }
-    true
+    revoked[..made].iter().all(|row| revoked_fits(*row))
 }

@@ -6,77 +6,28 @@ ghost use Rattle.tables.specs.Fit.{HeadFits, HolderFits, RevokedFits};
 pub fn head_fits(row: [u64; 6]) -> bool
     ensures { Decides result (HeadFits row) }
 {
-    if row[1] > 64 {
-        return false;
-    }
-    if row[2] > 256 {
-        return false;
-    }
-    if row[3] > 256 {
-        return false;
-    }
-    if row[4] > 256 {
-        return false;
-    }
-    if row[5] > 32768 {
-        return false;
-    }
-    true
+    let [_, keys, registrations, requests, log, text] = row;
+    keys <= 64 && registrations <= 256 && requests <= 256 && log <= 256 && text <= 32768
 }
 
 // A registered key's row, of `made` registrations and `requests` requests.
 pub fn holder_fits(row: [u64; 6], made: u64, requests: u64) -> bool
     ensures { Decides result (HolderFits made requests row) }
 {
-    if row[1] > 1 {
-        return false;
-    }
-    if row[2] >= made {
-        return false;
-    }
-    if row[3] > requests {
-        return false;
-    }
-    if row[4] > 16 {
-        return false;
-    }
-    if row[5] != 0 {
-        return false;
-    }
-    if row[1] == 0 {
-        return true;
-    }
-    // Nothing waits under an Approver.
-    if row[4] != 0 {
-        return false;
-    }
-    true
+    let [_, role, number, active_from, pending, spare] = row;
+    role <= 1
+        && number < made
+        && active_from <= requests
+        && pending <= 16
+        // nothing waits under an Approver
+        && (role == 0 || pending == 0)
+        && spare == 0
 }
 
 pub fn revoked_fits(row: [u64; 6]) -> bool
     ensures { Decides result (RevokedFits row) }
 {
-    if row[0] > 1 {
-        return false;
-    }
-    if row[3] != 0 {
-        return false;
-    }
-    if row[4] != 0 {
-        return false;
-    }
-    if row[5] != 0 {
-        return false;
-    }
-    if row[0] == 1 {
-        return true;
-    }
+    let [mark, height, timestamp, ..] = row;
     // No time without a mark.
-    if row[1] != 0 {
-        return false;
-    }
-    if row[2] != 0 {
-        return false;
-    }
-    true
+    mark <= 1 && (mark == 1 || height == 0 && timestamp == 0) && row[3..] == [0; 3]
 }

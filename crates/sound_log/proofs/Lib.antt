@@ -1,3 +1,2 @@
 -- Laws that the proofs of the tests cite, here and in the crates above.
 pub mod Tallied
-pub mod Approvals

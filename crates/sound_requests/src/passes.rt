@@ -10,17 +10,12 @@ pub fn all_asked_fit(asked: &[[u64; 6]], m: usize, made: u64, used: u64) -> bool
     requires { (m ≤ 256) × (m ≤ length asked.now) }
     ensures { Decides result (AllAskedFit m made used asked.now) }
 {
-    let mut start: u64 = 0;
-    let mut n = 0;
-    while n < m {
-        if !asked_fits(asked[n], made) {
+    let mut start = 0;
+    for row in &asked[..m] {
+        if !asked_fits(*row, made) || row[2] != start {
             return false;
         }
-        if asked[n][2] != start {
-            return false;
-        }
-        start += asked[n][3];
-        n += 1;
+        start += row[3];
     }
     start == used
 }
@@ -35,12 +30,11 @@ pub fn all_decided_fit(
     requires { (m ≤ length asked.now) × (m ≤ length decided.now) × (m ≤ length approvers.now) }
     ensures { Decides result (AllDecidedFit m made asked.now decided.now approvers.now) }
 {
-    let mut n = 0;
-    while n < m {
+    // by place, since three tables are read there
+    for n in 0..m {
         if !decided_fits(decided[n], &approvers[n], made, asked[n][0]) {
             return false;
         }
-        n += 1;
     }
     true
 }

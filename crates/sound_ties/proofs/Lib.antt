@@ -1,5 +1,4 @@
 -- Laws that the proofs of the tests cite.
-pub mod Stored
 pub mod Forces
 pub mod Agreed
 pub mod Waiting

@@ -4,3 +4,4 @@
 pub mod lives;
 pub mod pending;
 pub mod registrations;
+pub mod used;

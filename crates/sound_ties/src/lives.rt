@@ -1,87 +1,66 @@
 // Whether each request and the registered keys agree on whose it is: a search over the keys for each request whose registration is in force no more.
-ghost use Rattle.std.specs.Prelude.{◌<◌, length};
+ghost use Rattle.std.specs.Prelude.{◌≤◌, ◌<◌, length};
 ghost use Rattle.ids.specs.Decides.{Decides};
 ghost use Rattle.tables.specs.Fit.{OwnFits, Lived};
-ghost use Rattle.sound_ties.specs.Places.{Numbered, Places, Within, Younger};
+ghost use Rattle.sound_ties.specs.Places.{Places, Younger};
 
-use rows::compare::is_key_at;
+use crate::used::{Asked, Holders};
 
-// Request n, whose registration is key i's: made under that key, by its account, as an Agent's, since the key was added.
-pub fn own_fits(
-    holders: &[[u64; 6]],
-    held: &[[u8; 32]],
-    asked: &[[u64; 6]],
-    agents: &[[u8; 32]],
-    n: usize,
-    i: usize,
-) -> bool
-    requires { (i < length holders.now) × (i < length held.now) × (n < length asked.now) × (n < length agents.now) }
-    ensures { Decides result (OwnFits n i holders.now held.now asked.now agents.now) }
-{
-    if holders[i][1] != 0 {
-        return false;
-    }
-    if holders[i][0] != asked[n][0] {
-        return false;
-    }
-    if holders[i][3] > n as u64 {
-        return false;
-    }
-    is_key_at(held, i, &agents[n])
+// The registered keys and the requests, each row with its key.
+#[derive(Clone, Copy)]
+pub struct Parties<'a> {
+    pub holders: Holders<'a>,
+    pub held: &'a [[u8; 32]],
+    pub asked: Asked<'a>,
+    pub agents: &'a [[u8; 32]],
+    ghost keys: { length holders.rows.now ≤ length held.now },
+    ghost signers: { length asked.rows.now ≤ length agents.now },
 }
 
-// Whether key i, if it is request n's, is younger than the request. The number is compared first: it is cheaper than a key.
-pub fn younger(
-    holders: &[[u64; 6]],
-    held: &[[u8; 32]],
-    agents: &[[u8; 32]],
-    n: usize,
-    i: usize,
-) -> bool
-    requires { (i < length holders.now) × (i < length held.now) × (n < length agents.now) }
-    ensures { Decides result (Younger holders.now held.now agents.now n i) }
-{
-    if (n as u64) < holders[i][3] {
-        return true;
+impl<'a> Parties<'a> {
+    // Request n, whose registration is key i's: made under that key, by its account, as an Agent's, since the key was added.
+    fn own_fits(&self, n: usize, i: usize) -> bool
+        requires { (n < length self.now.asked.rows.now) × (i < length self.now.holders.rows.now) }
+        ensures { Decides result (OwnFits n i self.now.holders.rows.now self.now.held.now self.now.asked.rows.now self.now.agents.now) }
+    {
+        let [account, role, _, active_from, ..] = self.holders.rows[i];
+        role == 0
+            && account == self.asked.rows[n][0]
+            && active_from <= n as u64
+            && self.held[i] == self.agents[n]
     }
-    !is_key_at(held, i, &agents[n])
-}
 
-// The first request at fault ends both loops.
-pub fn lived(
-    place: &[u64; 256],
-    holders: &[[u64; 6]],
-    held: &[[u8; 32]],
-    asked: &[[u64; 6]],
-    agents: &[[u8; 32]],
-    k: usize,
-    m: usize,
-) -> bool
-    requires { Within k m holders.now held.now asked.now agents.now × Numbered m 1 asked.now × Places k holders.now place.now }
-    ensures { Decides result (Lived k m holders.now held.now asked.now agents.now) }
-{
-    let mut ok = true;
-    let mut n = 0;
-    'requests: while n < m {
-        let g = asked[n][1] as usize;
-        let at = place[g] as usize;
-        if at != 0 {
-            if !own_fits(holders, held, asked, agents, n, at - 1) {
-                ok = false;
-                break 'requests;
-            }
-            n += 1;
-            continue 'requests;
-        }
-        let mut i = 0;
-        while i < k {
-            if !younger(holders, held, agents, n, i) {
-                ok = false;
-                break 'requests;
-            }
-            i += 1;
-        }
-        n += 1;
+    // Whether key i, if it is request n's, is younger than the request. The number is compared first: it is cheaper than a key.
+    fn younger(&self, n: usize, i: usize) -> bool
+        requires { (n < length self.now.asked.rows.now) × (i < length self.now.holders.rows.now) }
+        ensures { Decides result (Younger self.now.holders.rows.now self.now.held.now self.now.agents.now n i) }
+    {
+        self.holders.rows[i][3] > n as u64 || self.held[i] != self.agents[n]
     }
-    ok
+
+    // The first request at fault ends both loops.
+    pub fn lived(&self, place: &[Option<usize>; 256]) -> bool
+        requires { Places (length self.now.holders.rows.now) self.now.holders.rows.now place.now }
+        ensures { Decides result (Lived (length self.now.holders.rows.now) (length self.now.asked.rows.now) self.now.holders.rows.now self.now.held.now self.now.asked.rows.now self.now.agents.now) }
+    {
+        'requests: {
+            for (n, row) in self.asked.rows.iter().enumerate() {
+                match place[row[1] as usize] {
+                    Some(i) => {
+                        if !self.own_fits(n, i) {
+                            break 'requests false;
+                        }
+                    }
+                    None => {
+                        for i in 0..self.holders.rows.len() {
+                            if !self.younger(n, i) {
+                                break 'requests false;
+                            }
+                        }
+                    }
+                }
+            }
+            true
+        }
+    }
 }

@@ -2,77 +2,48 @@
 ghost use Rattle.std.specs.Prelude.{◌≤◌, length};
 ghost use Rattle.ids.specs.Decides.{Decides};
 ghost use Rattle.tables.specs.Fit.{Registered};
-ghost use Rattle.sound_ties.specs.Places.{Numbered, InForce, EachPlaced, Noted};
+ghost use Rattle.sound_ties.specs.Places.{InForce, EachPlaced, Noted};
 
-// By registration number: 0 where none of the keys has it, and i + 1 where key i has.
-#[derive(Clone, Copy)]
-pub struct Placed {
-    pub ok: bool,
-    pub place: [u64; 256],
-}
+use crate::used::Holders;
 
-// Whether no key's registration is revoked or another key's. The first fault ends the pass.
+// The place of the key that has each registration, if no key's registration is revoked or another key's. The first fault ends the pass.
 #[tactic(auto, using(crate::proofs::Forces::twice))]
-pub fn in_force(holders: &[[u64; 6]], revoked: &[[u64; 6]], n: usize) -> Placed
-    requires { (n ≤ length holders.now) × (256 ≤ length revoked.now) × Numbered n 2 holders.now }
-    ensures { Noted result (InForce n holders.now revoked.now) n holders.now }
+pub fn in_force(holders: &Holders, revoked: &[[u64; 6]]) -> Option<[Option<usize>; 256]>
+    requires { 256 ≤ length revoked.now }
+    ensures { Noted result (InForce (length holders.now.rows.now) holders.now.rows.now revoked.now) holders.now.rows.now }
 {
-    let mut place: [u64; 256] = [0; 256];
-    let mut i = 0;
-    while i < n {
-        let g = holders[i][2] as usize;
-        if revoked[g][0] != 0 {
-            return Placed {
-                ok: false,
-                place: place,
-            };
+    let mut place = [None; 256];
+    for (i, row) in holders.rows.iter().enumerate() {
+        let g = row[2] as usize;
+        if revoked[g][0] != 0 || place[g].is_some() {
+            return None;
         }
-        if place[g] != 0 {
-            return Placed {
-                ok: false,
-                place: place,
-            };
-        }
-        place[g] = i as u64 + 1;
-        i += 1;
+        place[g] = Some(i);
     }
-    Placed {
-        ok: true,
-        place: place,
-    }
+    Some(place)
 }
 
 // Whether every registration that is not revoked has a place.
-pub fn each_placed(place: &[u64; 256], revoked: &[[u64; 6]], made: usize) -> bool
+pub fn each_placed(place: &[Option<usize>; 256], revoked: &[[u64; 6]], made: usize) -> bool
     requires { (made ≤ 256) × (made ≤ length revoked.now) }
     ensures { Decides result (EachPlaced made place.now revoked.now) }
 {
-    let mut g = 0;
-    while g < made {
-        if revoked[g][0] == 0 {
-            if place[g] == 0 {
-                return false;
-            }
+    for g in 0..made {
+        if revoked[g][0] == 0 && place[g].is_none() {
+            return false;
         }
-        g += 1;
     }
     true
 }
 
-pub fn registered(holders: &[[u64; 6]], revoked: &[[u64; 6]], n: usize, made: usize) -> Placed
-    requires { (n ≤ length holders.now) × (256 ≤ length revoked.now) × (made ≤ 256) × Numbered n 2 holders.now }
-    ensures { Noted result (Registered n made holders.now revoked.now) n holders.now }
+pub fn registered(
+    holders: &Holders,
+    revoked: &[[u64; 6]],
+    made: usize,
+) -> Option<[Option<usize>; 256]>
+    requires { (256 ≤ length revoked.now) × (made ≤ 256) }
+    ensures { Noted result (Registered (length holders.now.rows.now) made holders.now.rows.now revoked.now) holders.now.rows.now }
 {
-    let found = in_force(holders, revoked, n);
-    if !found.ok {
-        return found;
-    }
-    let place = found.place;
-    if !each_placed(&place, revoked, made) {
-        return Placed {
-            ok: false,
-            place: place,
-        };
-    }
-    found
+    let place = in_force(holders, revoked)?;
+    each_placed(&place, revoked, made).then_some(place)
 }

@@ -1,2 +1,3 @@
 -- Laws that the proofs of the tests cite.
+pub mod Used
 pub mod Grouped

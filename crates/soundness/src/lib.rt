@@ -1,9 +1,14 @@
 // Whether lent tables are a sound ledger: the check that comes before all else. For every function that takes the tables from outside.
+// They come as three parameters, as C and the callers of `ledger` lend them; from here on they are a `Sound`.
 #![tactic(auto)]
 
 ghost use Rattle.ids.specs.Decides.{Decides};
 ghost use Rattle.tables.specs.Fit.{Fit};
 ghost use Rattle.tables.specs.Tables.{Standing, tables};
+ghost use Rattle.soundness.specs.Checks.{Checks};
+
+use records::Refusal;
+use tables::Sound;
 
 pub mod regions;
 
@@ -11,25 +16,13 @@ pub mod regions;
 pub fn fit(book: &[[u64; 6]], keys: &[[u8; 32]], texts: &[u8]) -> bool
     ensures { Decides result (Fit (tables book.now keys.now texts.now)) }
 {
-    if book.len() != 1089 {
-        return false;
-    }
-    if keys.len() != 576 {
-        return false;
-    }
-    if texts.len() != 32768 {
-        return false;
-    }
-    if !sound_keys::shapes::head_fits(book[0]) {
-        return false;
-    }
-    if !regions::rows_fit(book, keys) {
-        return false;
-    }
-    if !regions::blank(book, keys, texts) {
-        return false;
-    }
-    regions::ties_fit(book, keys)
+    book.len() == 1089
+        && keys.len() == 576
+        && texts.len() == 32768
+        && sound_keys::shapes::head_fits(book[0])
+        && regions::rows_fit(book, keys)
+        && regions::blank(book, keys, texts)
+        && regions::ties_fit(book, keys)
 }
 
 // Yes exactly if the tables hold a sound ledger.
@@ -37,4 +30,19 @@ pub fn is_sound(book: &[[u64; 6]], keys: &[[u8; 32]], texts: &[u8]) -> bool
     ensures { Decides result (Standing (tables book.now keys.now texts.now)) }
 {
     fit(book, keys, texts)
+}
+
+// The tables as those of a sound ledger, for the functions that are given such; or the refusal that comes before all others.
+pub fn checked<'a>(
+    book: &'a [[u64; 6]],
+    keys: &'a [[u8; 32]],
+    texts: &'a [u8],
+) -> Result<Sound<'a>, Refusal>
+    ensures { Checks book.entry keys.entry texts.entry result }
+{
+    if fit(book, keys, texts) {
+        Ok(Sound { book, keys, texts })
+    } else {
+        Err(Refusal::Damaged)
+    }
 }

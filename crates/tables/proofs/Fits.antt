@@ -23,8 +23,8 @@ use Rattle.machine.specs.Types.{Approved, Asked, Decision, Holder, Ledger, Regis
 use Rattle.records.proofs.Roles.{same_by_number}
 use Rattle.records.specs.Roles.{role_number}
 use Rattle.records.specs.declared.BlockTime.{BlockTime}
-use Rattle.records.specs.declared.Role.{Role}
-use Rattle.records.specs.declared.Role.TheVariants.{Agent, Approver}
+use Rattle.records.specs.declared.role.Role.{Role}
+use Rattle.records.specs.declared.role.Role.TheVariants.{Agent, Approver}
 use Rattle.rows.proofs.Apart.{distinct_of_places, distinct_padded}
 use Rattle.rows.proofs.Padded.{zero_rest}
 use Rattle.rows.specs.Apart.{Distinct}

@@ -16,7 +16,7 @@ use Rattle.tables.proofs.Laid.{laid}
 use Rattle.tables.proofs.Rows.{key_count_is}
 use Rattle.tables.specs.Parts.{key_count}
 use Rattle.tables.specs.Tables.{Stands, Tables}
-use Rattle.rows.specs.declared.Found.TheVariants as Found
+use Rattle.std.specs.Prelude.{Some, None}
 
 seek_at : (key : Bytes) (ks : List Holder) {i : ℕ} {p : Holder} → At ks i p → p.reg.key ≡ key → ((k : ℕ) (q : Holder) → k < i → At ks k q → q.reg.key ≢ key)
     → seek key ks ≡ some (record { at = i; is = p })
@@ -38,11 +38,11 @@ module _ {t : Tables} {L : Ledger} (st : Stands t L) (key : Bytes) where
     pub key_is : holder.reg.key ≡ key
     pub sought : seek key L.keys ≡ some (record { at = i; is = holder })
 
-  pub seek_found : (n i : ℕ) → n ≡ key_count t → Finds n t.keys key (Found.At i) → Sought i
+  pub seek_found : (n i : ℕ) → n ≡ key_count t → Finds n t.keys key (Some i) → Sought i
   seek_found n i e f =
       let (p, hp) = at_below L.keys i (rw (key_count_is st.sound (laid L st.laid)) at (rw e at f.0)) in
       let k = sym (held_index st hp) ∙ f.1 in
       record { holder = p; here = hp; key_is = k; sought = seek_at key L.keys hp k (λ j q l hq w. f.2 j l (held_index st hq ∙ w)) }
 
-  pub seek_missing : (n : ℕ) → n ≡ key_count t → Finds n t.keys key Found.Nothing → seek key L.keys ≡ none
+  pub seek_missing : (n : ℕ) → n ≡ key_count t → Finds n t.keys key None → seek key L.keys ≡ none
   seek_missing n e f = seek_nowhere key L.keys (λ k q hq w. f k (rw (e, key_count_is st.sound (laid L st.laid)) (at_lt hq)) (held_index st hq ∙ w))

@@ -22,7 +22,7 @@ use Rattle.machine.specs.Tests.{approved, asks, regs, same, used}
 use Rattle.machine.specs.Types.{Approved, Asked, Decision, Holder, Registration, Rejected, Request, Undecided, Verdict}
 use Rattle.records.specs.Roles.{role_of}
 use Rattle.records.specs.declared.BlockTime.{BlockTime}
-use Rattle.records.specs.declared.Role.TheVariants.{Approver}
+use Rattle.records.specs.declared.role.Role.TheVariants.{Approver}
 use Rattle.rows.specs.Apart.{Distinct}
 use Rattle.tables.specs.Fit.{DecidedFits, Fit, begins, waiting}
 use Rattle.tables.specs.Parts.{agents, approvers, asked, cell, decided, held, holders, key_count, log_count, made, request_count, revoked, text_used}

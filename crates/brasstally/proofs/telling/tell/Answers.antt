@@ -5,5 +5,6 @@ use Rattle.brasstally.proofs.telling.tell.Goals as goal
 
 pub returns-clause-prints : goal.returns-clause-prints
 returns-clause-prints c =
-    let t = tables c.book-book.result c.keys-keys.result c.texts-texts.result in
-    prints c.args.input.now t c.args.out.now c.book-book.ensures c.keys-keys.ensures c.texts-texts.ensures c.requires c.run-ran.ensures.replays
+    let t = c.new-t.result in
+    let e = c.new-t.ensures in
+    prints c.args.input.now (tables t.book t.keys t.texts) c.args.out.now e.book e.keys e.texts c.requires c.run-ran.ensures.replays

@@ -1,7 +1,8 @@
 -- `capi::changes::brasstally_request` meets its contract: the ledger's call, told.
+use Rattle.std.proofs.Common.{rules}
 use Rattle.capi.proofs.Telling.{told}
 use Rattle.capi.specs.Outcomes.{requested_outcome}
 use Rattle.capi.proofs.changes.brasstally_request.Goals as goal
 
 pub returns : goal.returns
-returns c = rw c.of_answer.ensures (told requested_outcome (rw c.signed-caller.ensures at c.request_action-made.ensures))
+returns c = told requested_outcome (rw (c.signed-caller.ensures, c.time_at-time.ensures) at c.request_action-made.ensures) (search rules)

@@ -1,11 +1,14 @@
 -- `capi::proof::brasstally_revocations` meets its contract: the ledger's call, told.
-use Rattle.capi.proofs.Showing.{ends_told}
+use Rattle.std.proofs.Common.{rules}
+use Rattle.capi.proofs.Showing.{halves}
 use Rattle.capi.proofs.Telling.{told}
 use Rattle.capi.specs.Outcomes.{revocations_told}
 use Rattle.capi.proofs.proof.brasstally_revocations.Goals as goal
 
-pub returns-in-Are : goal.returns-in-Are
-returns-in-Are c = ends_told _ _ _ (rw c.in-Are.is at c.proof_revocations-answer.ensures) _ _ c.cells_of_end-a.ensures c.cells_of_end-b.ensures
+pub returns-in-Ok : goal.returns-in-Ok
+returns-in-Ok c = told (revocations_told c.args.row.now) c.proof_revocations.ensures
+    (rw (c.in-Ok.is, c.from.ensures, c.copy_from_slice.ensures.after, c.copy_from_slice-in-Ok.ensures.after, c.cells_of_end.ensures, c.cells_of_end-in-Ok.ensures)
+    (halves c.args.row.now c.told-row c.in-Ok.both))
 
-pub returns-in-Refused : goal.returns-in-Refused
-returns-in-Refused c = rw c.refused.ensures (told (revocations_told _) (rw c.in-Refused.is at c.proof_revocations-answer.ensures))
+pub returns-in-Err : goal.returns-in-Err
+returns-in-Err c = told (revocations_told c.args.row.now) c.proof_revocations.ensures (search rules)

@@ -1,8 +1,16 @@
--- `ledger::change::request_action` meets its contract: the check says no, and its call answers so. Assumes nothing.
-use Rattle.answers.proofs.Doing.{does_damaged}
+-- `ledger::change::request_action` meets its contract: the check, and then its part. Assumes nothing.
+use Rattle.std.proofs.Common.{refl, rules}
+use Rattle.answers.proofs.Doing.{does_part}
 use Rattle.answers.specs.Calls.{request_call}
+use Rattle.ledger.proofs.Checked.{not_passed, passed}
 use Rattle.ledger.proofs.change.request_action.Goals as goal
 
-pub returns-then-not-is_sound : goal.returns-then-not-is_sound
+pub returns-in_err-checked : goal.returns-in_err-checked
 unfolding request_call
-returns-then-not-is_sound c = rw c.request_refused.ensures (does_damaged _ (c.is_sound.ensures.no c.if-not-is_sound.true))
+returns-in_err-checked c = not_passed _ refl c.in_err-checked.ensures (search rules)
+
+pub request_sound-requires : goal.request_sound-requires
+request_sound-requires c = passed _ _ _ c.in_ok-checked.field-0 c.in_ok-checked.ensures
+
+pub returns : goal.returns
+returns c = does_part _ (passed _ _ _ c.in_ok-checked.field-0 c.in_ok-checked.ensures) c.request_sound.ensures

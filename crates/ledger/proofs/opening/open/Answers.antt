@@ -5,4 +5,4 @@ use Rattle.ledger.proofs.opening.open.Goals as goal
 
 pub returns : goal.returns
 returns c =
-    opens _ (record { book_long = search rules; keys_long = search rules; texts_long = search rules }) c.clear_rows.ensures c.clear_keys.ensures c.clear_bytes.ensures
+    opens _ (record { book_long = search rules; keys_long = search rules; texts_long = search rules }) c.clear.ensures c.clear-2.ensures c.clear-3.ensures

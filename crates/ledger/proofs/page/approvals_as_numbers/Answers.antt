@@ -1,8 +1,16 @@
--- `ledger::page::approvals_as_numbers` meets its contract: the check says no, and its call answers so. Assumes nothing.
+-- `ledger::page::approvals_as_numbers` meets its contract: the check, and then its part. Assumes nothing.
+use Rattle.std.proofs.Common.{◌≡◌, rules, Err}
 use Rattle.answers.proofs.Doing.{does_damaged}
 use Rattle.answers.specs.Calls.{page_call}
+use Rattle.ledger.proofs.Checked.{read_passed}
+use Rattle.records.specs.declared.refusal.Refusal.TheVariants.{Damaged}
 use Rattle.ledger.proofs.page.approvals_as_numbers.Goals as goal
 
-pub returns-then-not-is_sound : goal.returns-then-not-is_sound
+pub returns-in_err-sound : goal.returns-in_err-sound
 unfolding page_call
-returns-then-not-is_sound c = does_damaged _ (c.is_sound.ensures.no c.if-not-is_sound.true)
+returns-in_err-sound c =
+    let told : c.from_residual.result ≡ Err Damaged = search rules in
+    rw told (does_damaged _ c.in_err-sound.ensures.1)
+
+pub returns : goal.returns
+returns c = read_passed _ _ _ c.in_ok-sound.sound c.in_ok-sound.ensures c.page_sound.ensures

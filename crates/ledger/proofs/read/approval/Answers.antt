@@ -1,8 +1,12 @@
--- `ledger::read::approval` meets its contract: the check says no, and its call answers so. Assumes nothing.
-use Rattle.answers.proofs.Doing.{does_damaged}
+-- `ledger::read::approval` meets its contract: the check, and then its part. Assumes nothing.
+use Rattle.std.proofs.Common.{refl, rules}
 use Rattle.answers.specs.Calls.{approval_call}
+use Rattle.ledger.proofs.Checked.{not_passed, read_passed}
 use Rattle.ledger.proofs.read.approval.Goals as goal
 
-pub returns-then-not-is_sound : goal.returns-then-not-is_sound
+pub returns-in_err-sound : goal.returns-in_err-sound
 unfolding approval_call
-returns-then-not-is_sound c = rw c.shown_refused.ensures (does_damaged _ (c.is_sound.ensures.no c.if-not-is_sound.true))
+returns-in_err-sound c = not_passed _ refl c.in_err-sound.ensures (search rules)
+
+pub returns : goal.returns
+returns c = read_passed _ _ _ c.in_ok-sound.sound c.in_ok-sound.ensures c.approval_sound.ensures

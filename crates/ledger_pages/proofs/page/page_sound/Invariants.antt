@@ -1,17 +1,10 @@
--- The loop of `ledger_pages::page::page_sound`: the first k entries are written, and nothing past them. Assumes nothing.
-use Rattle.std.proofs.Common.{◌-◌, ◌≡◌, ◌≤◌, length, map}
-use Rattle.answers.specs.Answers.{entry_row}
+-- The loop of `ledger_pages::page::page_sound`: the first k places of the row's front hold the first k entries. Assumes nothing.
+use Rattle.std.proofs.Common.{◌≡◌, map, take}
 use Rattle.machine.specs.Reads.{entries}
 use Rattle.machine.specs.Types.{Ledger}
-use Rattle.rows.proofs.Written.{over}
-use Rattle.tables.specs.Tables.{Stands, tables}
+use Rattle.tables.specs.Lent.{lent}
+use Rattle.tables.specs.Tables.{Stands}
 use Rattle.ledger_pages.proofs.page.page_sound.Given as goal
 
 abbrev pub invariant-loop-k : goal.invariant-loop-k
-invariant-loop-k l =
-    (l.k ≤ l.size)
-    × (length l.rows ≡ length l.initial.rows)
-    × ((L : Ledger) → Stands (tables l.book l.keys l.texts) L → l.rows ≡ over l.initial.rows l.k (map entry_row (entries L l.from l.limit)))
-
-abbrev pub decreases-loop-k : goal.decreases-loop-k
-decreases-loop-k l = l.size - l.k
+invariant-loop-k g l = (L : Ledger) → Stands (lent l.sound) L → take l.k l.row-items ≡ take l.k (map g.P.Place.of_entry (entries L l.from l.limit))

@@ -4,7 +4,7 @@ use Rattle.sound_ties.proofs.Waiting.{counts_few, counts_none}
 use Rattle.sound_ties.proofs.pending.waiting_counts.Goals as goal
 
 pub loop-n-init : goal.loop-n-init
-loop-n-init c = (omega arith, counts_none)
+loop-n-init c = counts_none
 
 pub overflow_add-counts : goal.overflow_add-counts
-overflow_add-counts c = omega (arith, counts_few c.loop-n.invariant.1 _ (c.requires.2 _ c.loop-n-test.true))
+overflow_add-counts c = omega (arith, counts_few c.loop-n.invariant _ (c.args.asked.now.numbered _ c.loop-n-test.true))

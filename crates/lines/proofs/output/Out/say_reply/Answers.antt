@@ -1,0 +1,10 @@
+-- `lines::output::Out::say_reply` meets its contract: a page is told with its requests.
+use Rattle.std.proofs.lemmas.List.{take_min}
+use Rattle.lines.specs.Lines.{said}
+use Rattle.lines.proofs.Appending.{then_more}
+use Rattle.lines.proofs.output.Out.say_reply.Goals as goal
+
+pub returns-in-Page : goal.returns-in-Page
+unfolding said
+returns-in-Page c =
+    rw c.in-Page.is (then_more c.push.ensures (then_more c.push_counted.ensures (rw (← take_min c.in-Page.count c.in-Page.requests, ← c.min.ensures) c.push_numbers-in-Page.ensures)))

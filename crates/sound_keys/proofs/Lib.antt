@@ -1,3 +1,0 @@
--- Laws that the proofs of the tests cite, here and in the crates above.
-pub mod Passed
-pub mod Shaped
