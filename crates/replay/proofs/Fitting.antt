@@ -17,6 +17,7 @@ use Rattle.commands.specs.Commands.{Command, open_by, change, status_of, page_fr
 use Rattle.lines.proofs.Appending.{in_full}
 use Rattle.lines.proofs.Short.{Few, end_short, line_short, stopped_short}
 use Rattle.lines.specs.Lines.{line}
+use Rattle.lines.specs.Output.{Wrote}
 use Rattle.acts.proofs.Few.{after_sound, told_few}
 use Rattle.replay.specs.declared.file.Ran.{Ran}
 use Rattle.replay.specs.Run.{Acted, Replays, State, acted, all, on, one, lines_room, opening, output, Prints, sized, start, whole}
@@ -75,6 +76,11 @@ lines_whole input {t} out long p = in_full out (output (whole (sized t) input)) 
 right : (t : Tables) → 1089 ≡ length t.book → 576 ≡ length t.keys → 32768 ≡ length t.texts → sized t ≡ true
 unfolding sized
 right t b k w = grind (arith, nat_tests)
+
+-- whatever the row's room, it has the run's output as far as that goes
+pub writes : (input : Bytes) (t : Tables) {t' : Tables} (out : Bytes) {out' : Bytes} {r : Ran} → 1089 ≡ length t.book → 576 ≡ length t.keys → 32768 ≡ length t.texts
+    → Replays input t t' out out' r → Wrote out (output (whole true input)) out' r.wrote
+writes input t out {out'} {r} b k w p = subst (λ (fit : Bool). Wrote out (output (whole fit input)) out' r.wrote) (right t b k w) p.lines
 
 pub prints : (input : Bytes) (t : Tables) {t' : Tables} (out : Bytes) {out' : Bytes} {r : Ran} → 1089 ≡ length t.book → 576 ≡ length t.keys → 32768 ≡ length t.texts
     → lines_room ≤ length out → Replays input t t' out out' r → Prints input out' r.wrote
