@@ -4,3 +4,5 @@ pub mod Zeros
 pub mod Written
 pub mod Regions
 pub mod Apart
+pub mod Firsts
+pub mod Keys

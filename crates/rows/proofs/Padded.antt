@@ -63,6 +63,10 @@ module _ {A : Type 0} where
   decode (x ∷ t) (suc n) (suc m) z e h =
       ap (λ (r : List A). x ∷ r) (decode t n m z (omega arith) (λ k l g. h (suc k) (omega arith) (omega arith)))
 
+  pub padded_injective : (n : ℕ) (z : A) (xs ys : List A) → length xs ≡ length ys → length xs ≤ n → padded n z xs ≡ padded n z ys → xs ≡ ys
+  padded_injective n z xs ys e h p =
+      sym (take_padded n z xs h) ∙ (λ i. take (e i) (p i)) ∙ take_padded n z ys (omega arith)
+
   -- ---- a store, and one more
   pub set_padded : (n : ℕ) (z : A) (xs : List A) (i : ℕ) (a : A) → i < length xs → length xs ≤ n
       → set (padded n z xs) i a ≡ padded n z (set xs i a)

@@ -4,15 +4,20 @@ use mathlib.Core.Path.{◌≡◌, refl, sym, ap, ◌∙◌}
 use mathlib.Core.List.{List, [], ◌∷◌, ◌++◌, map, append_assoc}
 use native.Mathlib.Omega.{arith}
 use lib.ListN.{length, get_or, take, drop, set, length-append, length-drop, length-map, length-set, get_or-map}
-use lib.Seq.{take-append-add, drop-append-add, take-append_seam, drop-append_seam, drop-drop, take-add, take_all, length-take-le, map-set_same}
+use lib.Seq.{take-append-add, drop-append-add, take-append_seam, drop-append_seam, drop-drop, take-add, take_all, length-take-le, get_or-take, get_or-drop, map-set_same}
 use borrow.Rule.Slice.PartMut.{put_mid, set_mid_at}
-use Rattle.lists.proofs.Getting.{map_take}
+use Rattle.lists.proofs.Getting.{parts_equal, map_take}
 use Rattle.std.specs.Prelude.{sum}
 use Rattle.std.proofs.lemmas.List.Sums.{sum_by-cons}
 use Rattle.rows.specs.Regions.{flat, regions, Holds}
 
 sum-cons : (s : ℕ) (ss : List ℕ) → sum (s ∷ ss) ≡ s + sum ss
 sum-cons = sum_by-cons (λ (x : ℕ). x)
+
+sum_part : (ss : List ℕ) (i : ℕ) → i < length ss → sum (take i ss) + get_or ss i 0 ≤ sum ss
+sum_part [] i h = absurd (omega arith)
+sum_part (s ∷ ss) zero h = omega (arith, sum-cons s ss)
+sum_part (s ∷ ss) (suc i) h = omega (arith, sum_part ss i (omega arith), sum-cons s ss, sum-cons s (take i ss))
 
 module _ {A : Type 0} where
   -- ---- the tables by themselves, with no list of lengths
@@ -36,6 +41,21 @@ module _ {A : Type 0} where
       (append_assoc r (take (length (flat (take i rs))) (flat rs)) (q ++ drop (length (get_or rs i [])) (drop (length (flat (take i rs))) (flat rs)))
       ∙ ap (λ (l : List A). r ++ l) (back rs i q (omega arith)))
 
+  -- the list tells the tables
+  pub flat_injective : (rs qs : List (List A)) → map length rs ≡ map length qs → flat rs ≡ flat qs → rs ≡ qs
+  flat_injective [] [] e p = refl
+  flat_injective [] (q ∷ qs) e p = absurd (omega (arith, ap length e))
+  flat_injective (r ∷ rs) [] e p = absurd (omega (arith, ap length e))
+  flat_injective (r ∷ rs) (q ∷ qs) e p =
+      let one : length r ≡ length q = cc in
+      let rest : map length rs ≡ map length qs = cc in
+      let both = parts_equal r q one p in
+      let tail = flat_injective rs qs rest both.1 in
+      λ i. both.0 i ∷ tail i
+
+  pub holds_once : {ss : List ℕ} {n : List A} {rs qs : List (List A)} → Holds ss n rs → Holds ss n qs → rs ≡ qs
+  holds_once {rs = rs} {qs} h g = flat_injective rs qs (h.long ∙ sym g.long) (sym h.is ∙ g.is)
+
   pub holds_long : {ss : List ℕ} {n : List A} {rs : List (List A)} → Holds ss n rs → length n ≡ sum ss
   holds_long {rs = rs} h = ap length h.is ∙ length_flat rs ∙ ap sum h.long
 
@@ -54,6 +74,17 @@ module _ {A : Type 0} where
       -- a part is the table
       pub region_is : take len (drop start n) ≡ get_or rs i []
       region_is = rw (h.is, s, e, ← starts, ← region_long) (lend rs i in_rs)
+
+      pub region_fits : start + len ≤ length n
+      region_fits = let g = holds_long h in omega (arith, sum_part ss i l)
+
+      -- an entry is the table's
+      pub region_read : (p k : ℕ) (d : A) → p ≡ start + k → k < len → get_or n p d ≡ get_or (get_or rs i []) k d
+      region_read p k d q g =
+          ap (λ (m : ℕ). get_or n m d) q
+          ∙ sym (get_or-drop start n k d)
+          ∙ sym (get_or-take len (drop start n) k d g)
+          ∙ ap (λ (r : List A). get_or r k d) region_is
 
       -- a part that was lent comes back as q
       pub region_put : (q : List A) → length q ≡ len → Holds ss (put_mid start len n q) (set rs i q)

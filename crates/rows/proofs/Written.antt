@@ -5,8 +5,10 @@ use mathlib.Core.List.{List, [], ◌∷◌, ◌++◌}
 use native.Mathlib.Omega.{arith}
 use native.Mathlib.Nat.{zero-add, suc-add}
 use native.Mathlib.Numerals.{add-one}
-use lib.ListN.{length, get_or, set, take, drop, replicate}
-use lib.Seq.{paste}
+use lib.ListN.{length, get_or, set, take, drop, replicate, length-append, length-drop}
+use lib.Seq.{length-take-le, paste}
+use Rattle.lists.specs.Places.{erase}
+use Rattle.lists.proofs.Places.{length_erase}
 use Rattle.rows.specs.Padded.{slid}
 
 -- the first j entries are those of xs
@@ -31,6 +33,13 @@ module _ {A : Type 0} where
 
   pub cleared_more : (d t : List A) (z : A) (i : ℕ) → i < length d → t ≡ replicate i z ++ drop i d → set t i z ≡ replicate (i + 1) z ++ drop (i + 1) d
   cleared_more d t z i h e = rw (e, add-one) (cleared d z i h)
+
+  -- ---- a table stays as long where an entry is taken out of its first n
+  pub length_slid : (d : List A) (at n : ℕ) (z : A) → at < n → n ≤ length d → length (slid at n z d) ≡ length d
+  length_slid d at n z in-n in-d =
+      let m = length-take-le n d in-d in
+      let front = length_erase (take n d) at (omega arith) in
+      rw (length-append (erase (take n d) at) (z ∷ drop n d)) (omega (arith, length-drop n d))
 
   -- ---- the entries behind one are copied a place down, and z follows
   moved : (x : A) (xs : List A) (m : ℕ) (z : A) → m ≤ length xs → set (take m xs ++ drop m (x ∷ xs)) m z ≡ take m xs ++ (z ∷ drop m xs)

@@ -24,9 +24,13 @@ pub fn shift<T: Copy>(t: &mut [T], at: usize, n: usize, zero: T)
 }
 
 // Writes the bytes of s from place `at` on.
+#[tactic(auto, using(std::proofs::lemmas::List::Edits::paste_more))]
 pub fn put_bytes(t: &mut [u8], at: usize, s: &[u8])
     requires { at + length s.now ≤ length t.old }
     ensures { t.new ≡ paste t.old at s.now (length s.now) }
 {
-    t[at..at + s.len()].copy_from_slice(s);
+    // A loop: `copy_from_slice` would have the archive for C need `memmove` from outside.
+    for (i, byte) in s.iter().enumerate() {
+        t[at + i] = *byte;
+    }
 }

@@ -1,4 +1,4 @@
-// Whether entries are zero: read in place, and left at the first that tells.
+// Whether entries are zero, or keys the same: read in place, and left at the first entry that tells.
 ghost use Rattle.std.specs.Prelude.{◌≡◌, replicate};
 ghost use Rattle.ids.specs.Decides.{Decides};
 ghost use Rattle.rows.specs.Zeros.{ZeroFrom};
@@ -32,7 +32,13 @@ impl<T: Zero, const N: usize> Zero for [T; N] {
 
     #[tactic(auto, using(crate::proofs::Zeros::zero_whole))]
     fn is_zero(&self) -> bool {
-        zero_from(self, 0)
+        // not by `zero_from`: a loop of constant length is unrolled
+        for x in self {
+            if !x.is_zero() {
+                return false;
+            }
+        }
+        true
     }
 }
 
@@ -40,5 +46,25 @@ impl<T: Zero, const N: usize> Zero for [T; N] {
 pub fn zero_from<T: Zero>(t: &[T], from: usize) -> bool
     ensures { Decides result (ZeroFrom T.zero from t.now) }
 {
-    t.iter().skip(from).all(|x| x.is_zero())
+    for i in from..t.len() {
+        if !t[i].is_zero() {
+            return false;
+        }
+    }
+    true
+}
+
+// Whether two keys are the same: all but their last bytes in few reads, and the last only where those agree.
+fn alike(a: &[u8; 32], b: &[u8; 32]) -> bool
+    ensures { Decides result (a.now ≡ b.now) }
+{
+    a.starts_with(&b[..31]) && a[31] == b[31]
+}
+
+// The same. The first byte tells most keys apart: always inlined, so that it costs no call.
+#[inline(always)]
+pub fn same_key(a: &[u8; 32], b: &[u8; 32]) -> bool
+    ensures { Decides result (a.now ≡ b.now) }
+{
+    a[0] == b[0] && alike(a, b)
 }

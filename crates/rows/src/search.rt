@@ -4,6 +4,8 @@ ghost use Rattle.ids.specs.Decides.{Decides};
 ghost use Rattle.rows.specs.Apart.{Distinct};
 ghost use Rattle.rows.specs.Finds.{Finds};
 
+use crate::compare::same_key;
+
 // The first place of a key: the break that ends the search yields it.
 pub fn find(keys: &[[u8; 32]], n: usize, key: [u8; 32]) -> Option<usize>
     requires { n ≤ length keys.now }
@@ -11,7 +13,7 @@ pub fn find(keys: &[[u8; 32]], n: usize, key: [u8; 32]) -> Option<usize>
 {
     'search: {
         for at in 0..n {
-            if keys[at] == key {
+            if same_key(&keys[at], &key) {
                 break 'search Some(at);
             }
         }
@@ -27,7 +29,7 @@ pub fn distinct(keys: &[[u8; 32]], n: usize) -> bool
     'search: {
         for i in 0..n {
             for j in i + 1..n {
-                if keys[i] == keys[j] {
+                if same_key(&keys[i], &keys[j]) {
                     break 'search false;
                 }
             }

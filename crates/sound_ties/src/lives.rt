@@ -5,6 +5,7 @@ ghost use Rattle.tables.specs.Fit.{OwnFits, Lived};
 ghost use Rattle.sound_ties.specs.Places.{Places, Younger};
 
 use crate::used::{Asked, Holders};
+use rows::compare::same_key;
 
 // The registered keys and the requests, each row with its key.
 #[derive(Clone, Copy)]
@@ -27,7 +28,7 @@ impl<'a> Parties<'a> {
         role == 0
             && account == self.asked.rows[n][0]
             && active_from <= n as u64
-            && self.held[i] == self.agents[n]
+            && same_key(&self.held[i], &self.agents[n])
     }
 
     // Whether key i, if it is request n's, is younger than the request. The number is compared first: it is cheaper than a key.
@@ -35,7 +36,7 @@ impl<'a> Parties<'a> {
         requires { (n < length self.now.asked.rows.now) × (i < length self.now.holders.rows.now) }
         ensures { Decides result (Younger self.now.holders.rows.now self.now.held.now self.now.agents.now n i) }
     {
-        self.holders.rows[i][3] > n as u64 || self.held[i] != self.agents[n]
+        self.holders.rows[i][3] > n as u64 || !same_key(&self.held[i], &self.agents[n])
     }
 
     // The first request at fault ends both loops.

@@ -40,7 +40,7 @@ pub fn checked<'a>(
 ) -> Result<Sound<'a>, Refusal>
     ensures { Checks book.entry keys.entry texts.entry result }
 {
-    if fit(book, keys, texts) {
+    if is_sound(book, keys, texts) {
         Ok(Sound { book, keys, texts })
     } else {
         Err(Refusal::Damaged)

@@ -65,10 +65,12 @@ pub fn ties_fit<'a>(book: &'a [[u64; 6]], keys: &'a [[u8; 32]]) -> bool
         },
         agents: &keys[64..320],
     };
-    distinct(parties.held, k)
-        && match registered(&parties.holders, &book[577..833], made as usize) {
-            Some(place) => parties.lived(&place)
-                && waits(&parties.holders, &parties.asked, &book[321..577]),
-            None => false,
-        }
+    if !distinct(parties.held, k) {
+        return false;
+    }
+    let mut place = [None; 256];
+    if !registered(&parties.holders, &book[577..833], made as usize, &mut place) {
+        return false;
+    }
+    parties.lived(&place) && waits(&parties.holders, &parties.asked, &book[321..577])
 }

@@ -10,11 +10,17 @@ invariant_of-parties c = record { numbered = numbered_keys c.requires.0 c.requir
 pub invariant_of-parties-2 : goal.invariant_of-parties-2
 invariant_of-parties-2 c = record { numbered = numbered_requests c.requires.0 c.requires.1 }
 
-pub returns-else-distinct : goal.returns-else-distinct
-returns-else-distinct c = rw c.if-distinct.false (fails (λ t. c.distinct.ensures.no c.if-distinct.false t.distinct))
+pub returns-then-not-distinct : goal.returns-then-not-distinct
+returns-then-not-distinct c = fails (λ t. c.distinct.ensures.no c.if-not-distinct.true t.distinct)
 
-pub returns-in-None : goal.returns-in-None
-returns-in-None c = let h = c.in-None.ensures in let holders = turned (holders_used c.requires.0) in fails (λ t. c.in-None.ensures (registered_alike holders t.registered))
+pub returns-then-not-registered : goal.returns-then-not-registered
+returns-then-not-registered c =
+    let none = rw c.if-not-registered.true at c.registered.ensures in
+    let holders = turned (holders_used c.requires.0) in
+    fails (λ t. none (registered_alike holders t.registered))
+
+pub lived-requires : goal.lived-requires
+lived-requires c = (rw c.if-not-registered.false at c.registered.ensures).1
 
 pub returns-else-lived : goal.returns-else-lived
 returns-else-lived c =
@@ -24,12 +30,13 @@ returns-else-lived c =
 
 pub returns-then-lived : goal.returns-then-lived
 returns-then-lived c =
+    let noted = rw c.if-not-registered.false at c.registered.ensures in
     let holders = holders_used c.requires.0 in
     let asked = asked_used c.requires.0 in
     decides_via
     (λ w. record {
-      distinct = c.distinct.ensures.yes c.if-distinct.true;
-      registered = registered_alike holders c.in-Some.ensures.0;
+      distinct = c.distinct.ensures.yes c.if-not-distinct.false;
+      registered = registered_alike holders noted.0;
       lived = lived_alike holders asked (c.lived.ensures.yes c.if-lived.true);
       waits = waits_alike holders asked _ w;
     })
