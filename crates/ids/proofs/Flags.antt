@@ -1,10 +1,11 @@
--- How a flag comes to decide a fact. For every proof over `Decides`. Assumes nothing.
+-- How a flag comes to decide a fact, and what a caller's tests of it then say. For every proof over `Decides`. Assumes nothing.
 use Prim.Native.Nat.{ℕ, ◌<◌, ◌≤◌}
-use mathlib.Core.Path.{sym}
-use mathlib.Core.Bool.{Bool, true, false, false≢true}
+use mathlib.Core.Path.{◌≡◌, sym}
+use mathlib.Core.Bool.{Bool, true, false, not, false≢true}
 use mathlib.Core.Logic.{◌⊎◌, inl, inr}
 use native.Mathlib.Omega.{arith}
 use native.Mathlib.Decide.{dec_lt}
+use borrow.Author.Tests.{not-true, not-false}
 use Rattle.ids.specs.Decides.{Decides}
 
 pub holds : {P : Type 0} → P → Decides true P
@@ -12,6 +13,13 @@ holds p = record { yes = λ _. p; no = λ e _. false≢true (sym e) }
 
 pub fails : {P : Type 0} → (P → ⊥) → Decides false P
 fails n = record { yes = λ e. absurd (false≢true e); no = λ _. n }
+
+-- after `if !f(..) { return .. }`: in the branch, and past it
+pub refuted : {r : Bool} {P : Type 0} → Decides r P → not r ≡ true → P → ⊥
+refuted {r} d e = d.no (not-true r e)
+
+pub confirmed : {r : Bool} {P : Type 0} → Decides r P → not r ≡ false → P
+confirmed {r} d e = d.yes (not-false r e)
 
 -- a flag that decides a fact decides any that is as true
 pub decides_via : {r : Bool} {P Q : Type 0} → (P → Q) → (Q → P) → Decides r P → Decides r Q

@@ -28,6 +28,9 @@ module _ {A : Type 0} where
   pub goes_on : (e : Refusal) {b : Bool} (m : Plan A) → b ≡ false → outcome (test e b m) ≡ outcome m
   goes_on e m h = rw h
 
+  pub misses : {X : Type 0} (e : Refusal) {o : Option X} (k : X → Plan A) → o ≡ none → outcome (look e o k) ≡ refused e
+  misses e k h = rw h
+
   pub finds : {X : Type 0} (e : Refusal) {o : Option X} (k : X → Plan A) {x : X} → o ≡ some x → outcome (look e o k) ≡ outcome (k x)
   finds e k h = rw h
 
