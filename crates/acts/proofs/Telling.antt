@@ -1,17 +1,16 @@
 -- Each public call's promise, told as its command's: the answer becomes what the machine's outcome is told as, and the tables are the call's. Assumes nothing.
-use mathlib.Core.List.{List, [], ◌∷◌, ◌++◌, map, map-append}
+use mathlib.Core.List.{List, [], ◌∷◌, ◌++◌, map, map-append, map-id}
 use mathlib.Core.Path.{◌≡◌, ◌∙◌, ap, refl, sym}
 use Prim.Native.Nat.{ℕ}
 use lib.ListN.{drop, length, length-map, take}
 use lib.Seq.{take_at}
 use Rattle.std.specs.Prelude.{Result, Ok, Err}
-use Rattle.std.specs.Result.{IsOkAnd, MatchResult}
-use Rattle.answers.proofs.Doing.{does_as}
+use Rattle.std.specs.Result.{IsErr, IsErrAnd}
+use Rattle.answers.proofs.Doing.{does_as, handed_on}
 use Rattle.answers.specs.Answers as answers
-use Rattle.answers.specs.Answers.{no_entries}
-use Rattle.answers.specs.Calls.{add_call, approve_call, change_call, page_in_call, reject_call, request_call, revoke_call, status_call}
+use Rattle.answers.specs.Answers.{PageOut, as_is}
+use Rattle.answers.specs.Calls.{add_call, approve_call, change_call, page_call, reject_call, request_call, revoke_call, status_call}
 use Rattle.answers.specs.Does.{Does}
-use Rattle.answers.specs.declared.Page.{Page}
 use Rattle.ids.specs.declared.Account.{Account}
 use Rattle.ids.specs.declared.RequestId.{RequestId}
 use Rattle.records.specs.declared.ActionRequest.{ActionRequest}
@@ -36,19 +35,16 @@ use Rattle.lines.specs.Lines as lines
 use Rattle.lines.specs.Lines.{Told, accepted, standing}
 use Rattle.lines.specs.Replies.{told}
 use Rattle.lines.specs.declared.reply.Reply.{Reply}
-use Rattle.acts.specs.Acts.{Acts, after_of, command_call, request_of, told_as, told_change, told_of}
+use Rattle.acts.specs.Acts.{Acts, after_of, request_of, told_as, told_change, told_of, told_page}
 
 -- ---- what an answer is told as: f of what was done, or the refusal
 abbrev pub answered : {B : Type 0} → (B → Told) → Result B Refusal → Told
 answered f (Ok b) = f b
 answered f (Err e) = lines.refused e
 
--- the reply that an answer is mapped to tells it
-pub replied : {B : Type 0} (f : B → Told) {P : B → Reply → Type 0} (r : Result B Refusal) (q : Result Reply Refusal) → ((b : B) (x : Reply) → P b x → told (Ok x) ≡ f b)
-    → MatchResult r (λ b. IsOkAnd q (P b)) (λ e. q ≡ Err e) → told q ≡ answered f r
-replied f (Ok b) (Ok x) h w = h b x w
-replied f (Ok b) (Err e) h w = absurd w
-replied f (Err e) q h w = ap told w
+-- what `?` hands on tells the refusal
+pub handed : {B : Type 0} (f : B → Told) {r : Result B Refusal} (q : Result Reply Refusal) {e : Refusal} → r ≡ Err e → IsErr q × IsErrAnd q (λ x. x ≡ e) → told q ≡ answered f r
+handed f q was h = ap told (handed_on h) ∙ ap (answered f) (sym was)
 
 -- the machine's outcome is told the same
 tells : {A B : Type 0} (f : B → Told) (g : A → B) (h : A → Told) → ((a : A) → f (g a) ≡ h a) → (o : Outcome A) → answered f (answers.told g o) ≡ told_as h o
@@ -84,14 +80,16 @@ asked r = accepted (r.id.0 ∷ [])
 abbrev pub approval : ApprovalProof → Told
 approval p = accepted (p.approval_index ∷ [])
 
--- a page's number of entries, and the request numbers of those that it has
-abbrev pub paged : Page → Told
-paged p = accepted (p.count ∷ take p.count (map request_of p.entries))
+-- a page's number of entries, and the request numbers of those that it has in the lent row
+abbrev pub paged : PageOut PageEntry → Told
+paged o = answered (λ n. accepted (n ∷ take n (map request_of o.rows))) o.answer
 
-page_told : (es : List PageEntry) → paged (record { count = length es; entries = es ++ drop (length es) no_entries }) ≡ accepted (length es ∷ map request_of es)
-page_told es =
-    ap (λ (ns : List ℕ). accepted (length es ∷ ns))
-    (ap (take (length es)) (map-append request_of es (drop (length es) no_entries)) ∙ take_at (map request_of es) (map request_of (drop (length es) no_entries)) (length es) (length-map es request_of))
+page_told : (rows : List PageEntry) (o : Outcome (List PageEntry)) → paged (answers.paged as_is rows o) ≡ told_page o
+page_told rows (refused e) = refl
+page_told rows (did es) =
+    ap (λ (xs : List PageEntry). accepted (length es ∷ take (length es) (map request_of (xs ++ drop (length es) rows)))) (map-id es)
+    ∙ ap (λ (ns : List ℕ). accepted (length es ∷ ns))
+    (ap (take (length es)) (map-append request_of es (drop (length es) rows)) ∙ take_at (map request_of es) (map request_of (drop (length es) rows)) (length es) (length-map es request_of))
 
 module _ {t t' : Tables} {w : Told} where
   pub adds : (caller : Account) (key : Bytes) (who : Account) (role : Role) {r : Result Principal Refusal} → Does (add_call caller key who role) t t' r → w ≡ answered registration r
@@ -124,6 +122,11 @@ module _ {t t' : Tables} {w : Told} where
   unfolding status_call told_of after_of
   tells_status n = does_as (answered standing) refl (λ L. tells standing (λ s. s) standing (λ s. refl) (status L n.0)) (λ L. refl)
 
-  pub tells_page : (from limit : ℕ) {r : Result Page Refusal} → Does (page_in_call from limit) t t' r → w ≡ answered paged r → Acts (page_from from limit) t t' w
-  unfolding page_in_call told_of after_of
-  tells_page from limit = does_as (answered paged) refl (λ L. tells paged _ _ page_told (outcome (page_into L from limit page_limit))) (λ L. refl)
+  -- a row of as many places as a page may have entries has room for any page
+  pub tells_page : (from limit : ℕ) (rows : List PageEntry) {r : PageOut PageEntry} → length rows ≡ page_limit → Does (page_call as_is rows from limit) t t' r → w ≡ paged r
+      → Acts (page_from from limit) t t' w
+  unfolding page_call told_of after_of
+  tells_page from limit rows long =
+      does_as paged refl
+      (λ L. page_told rows (outcome (page_into L from limit (length rows))) ∙ ap (λ (room : ℕ). told_page (outcome (page_into L from limit room))) long)
+      (λ L. refl)

@@ -16,7 +16,7 @@ fn run_from(rt: &impl Print, from: &mut impl Read) -> io::Result<()> {
 
 fn run_lines(rt: &impl Print, input: &[u8]) -> io::Result<()> {
     let mut out = rooms::lines();
-    let n = telling::tell(input, &mut out);
+    let n = telling::tell_whole(input, &mut out);
     rt.write_all(&out[..n])
 }
 

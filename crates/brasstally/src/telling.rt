@@ -14,3 +14,12 @@ pub fn tell(input: &[u8], out: &mut [u8]) -> usize
     let ran = replay::run(&mut t.book, &mut t.keys, &mut t.texts, input, out);
     ran.wrote
 }
+
+// The same in a row that has room for the lines of every run: whole. For the program.
+pub fn tell_whole(input: &[u8], out: &mut [u8]) -> usize
+    requires { lines_room ≤ length out.old }
+    ensures prints { Prints input.now out.new result }
+    ensures prefix_len { IsPrefixLen result out.new }
+{
+    tell(input, out)
+}

@@ -12,7 +12,7 @@ use Rattle.lines.specs.Decimal.{decimal, decimal_by}
 digit : (n : ℕ) → n < 10 → hex_digit_ascii n ≡ 48 + n
 digit n h = rw (lt-ltb n 10 h)
 
-fewest : (f k n : ℕ) → k ≤ f → IsDigitCount 10 1 n k → last_digits 10 k n ≡ decimal_by f n
+pub fewest : (f k n : ℕ) → k ≤ f → IsDigitCount 10 1 n k → last_digits 10 k n ≡ decimal_by f n
 fewest zero k n h d = absurd (omega (arith, d.0))
 fewest (suc f) zero n h d = absurd (omega (arith, d.0))
 fewest (suc f) (suc zero) n h d =
@@ -31,7 +31,7 @@ fewest (suc f) (suc (suc k)) n h d =
     rw (le-ltb n 10 big, fewest f (suc k) (n / 10) (omega arith) (omega arith, high, λ more. last), digit (n % 10) (omega arith))
 
 -- 20 digits hold a 64-bit number
-at_most_20 : (k n : ℕ) → n < 2 ^ 64 → IsDigitCount 10 1 n k → k ≤ 20
+pub at_most_20 : (k n : ℕ) → n < 10 ^ 20 → IsDigitCount 10 1 n k → k ≤ 20
 at_most_20 k n h d = go (lt_or_ge 20 k)
   where
     go : (20 < k) ⊎ (k ≤ 20) → k ≤ 20
@@ -39,6 +39,10 @@ at_most_20 k n h d = go (lt_or_ge 20 k)
     go (inr l) = l
 
 -- as `io::decimal` gives them
-pub decimal_text : (k n : ℕ) → n < 2 ^ 64 → IsDigitCount 10 1 n k → last_digits 10 k n ≡ decimal n
+pub decimal_text : (k n : ℕ) → k ≤ 20 → IsDigitCount 10 1 n k → last_digits 10 k n ≡ decimal n
 unfolding decimal
-decimal_text k n h d = fewest 20 k n (at_most_20 k n h d) d
+decimal_text k n h d = fewest 20 k n h d
+
+-- of a number of code, in the form that `push_decimal` needs
+pub number_text : (k n : ℕ) → n < 2 ^ 64 → IsDigitCount 10 1 n k → last_digits 10 k n ≡ decimal n
+number_text k n h d = decimal_text k n (at_most_20 k n (omega (arith, h)) d) d

@@ -7,6 +7,6 @@ use Rattle.lines.specs.Lines.{Told, accepted, standing, refused}
 abbrev pub told : Result Reply Refusal → Told
 told (Ok Reply.Done) = accepted []
 told (Ok (Reply.Number n)) = accepted (n ∷ [])
-told (Ok (Reply.Page k requests)) = accepted (k ∷ take k requests)
+told (Ok (Reply.Page k requests)) = accepted (k ∷ take k requests.now)
 told (Ok (Reply.Status s)) = standing s
 told (Err e) = refused e

@@ -13,8 +13,8 @@ use records::Refusal;
 
 impl Out<'_> {
     #[tactic(auto, using(crate::proofs::Appending::then_more, crate::proofs::Appending::nothing), unfolding(crate::specs::Lines::said))]
-    fn say_reply(&mut self, reply: Reply)
-        ensures { Appends (said (told (Ok reply))) self.old self.new }
+    fn say_reply(&mut self, reply: Reply<'_>)
+        ensures { Appends (said (told (Ok reply.entry))) self.old self.new }
     {
         self.push(" ok");
         match reply {
@@ -22,8 +22,7 @@ impl Out<'_> {
             Reply::Number(n) => self.push_numbers(&[n]),
             Reply::Page { count, requests } => {
                 self.push_counted(" ", count);
-                let all = &requests[..];
-                self.push_numbers(&all[..(count as usize).min(all.len())]);
+                self.push_numbers(&requests[..(count as usize).min(requests.len())]);
             }
             Reply::Status(status) => {
                 self.push(" ");
@@ -34,8 +33,8 @@ impl Out<'_> {
 
     // What follows a command's number.
     #[tactic(auto, using(crate::proofs::Appending::then_more), unfolding(crate::specs::Lines::said))]
-    fn say(&mut self, answer: Result<Reply, Refusal>)
-        ensures { Appends (said (told answer)) self.old self.new }
+    fn say(&mut self, answer: Result<Reply<'_>, Refusal>)
+        ensures { Appends (said (told answer.entry)) self.old self.new }
     {
         match answer {
             Ok(reply) => self.say_reply(reply),
@@ -49,8 +48,8 @@ impl Out<'_> {
     }
 
     #[tactic(auto, using(crate::proofs::Appending::then_more), unfolding(crate::specs::Lines::line))]
-    pub fn answer_line(&mut self, index: u64, answer: Result<Reply, Refusal>)
-        ensures { Appends (line index (told answer)) self.old self.new }
+    pub fn answer_line(&mut self, index: u64, answer: Result<Reply<'_>, Refusal>)
+        ensures { Appends (line index (told answer.entry)) self.old self.new }
     {
         self.push_decimal(index);
         self.say(answer);

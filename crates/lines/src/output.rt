@@ -33,7 +33,7 @@ impl Out<'_> {
         self.push_bytes(text.as_bytes());
     }
 
-    #[tactic(auto, using(crate::proofs::Decimal::decimal_text))]
+    #[tactic(auto, using(crate::proofs::Decimal::number_text))]
     pub(crate) fn push_decimal(&mut self, n: u64)
         ensures { Appends (decimal n) self.old self.new }
     {

@@ -15,8 +15,8 @@ pub struct Tally {
 
 // The tally with one command more.
 #[tactic(auto, unfolding(crate::specs::Lines::counted))]
-pub fn counted(tally: Tally, answer: Result<Reply, Refusal>) -> Tally
-    ensures { result ≡ Lines·counted (told answer) tally }
+pub fn counted(tally: Tally, answer: Result<Reply<'_>, Refusal>) -> Tally
+    ensures { result ≡ Lines·counted (told answer.entry) tally }
 {
     let commands = tally.commands.saturating_add(1);
     match answer {

@@ -1,9 +1,9 @@
--- The lines of any run fit into 2 MiB: at most 4,681 commands of at most 428 bytes of line each, the stopped line and the end line. Assumes nothing.
-use mathlib.Core.Path.{◌≡◌, subst}
+-- The lines of any run fit into 2 MiB: at most 4,681 commands of at most 428 bytes of line each, the stopped line and the end line; and what is told of them. Assumes nothing.
+use mathlib.Core.Path.{◌≡◌, subst, sym}
 use mathlib.Core.Bool.{Bool, true, false}
 use mathlib.Core.Option.{Option, none, some}
 use mathlib.Core.List.{List, [], ◌∷◌}
-use Prim.Native.Nat.{◌+◌, ◌*◌, ◌≤◌}
+use Prim.Native.Nat.{ℕ, ◌+◌, ◌*◌, ◌≤◌}
 use native.Mathlib.Omega.{arith}
 use lib.ListN.{length, take, length-append}
 use Rattle.std.proofs.lemmas.Bool.Decides.{nat_tests}
@@ -86,3 +86,13 @@ pub prints : (input : Bytes) (t : Tables) {t' : Tables} (out : Bytes) {out' : By
     → lines_room ≤ length out → Replays input t t' out out' r → Prints input out' r.wrote
 prints input t out {out'} {r} b k w long p =
     subst (λ (fit : Bool). take r.wrote out' ≡ output (whole fit input)) (right t b k w) (lines_whole input out long p).1
+
+-- ---- what is told, by a count that is the run's and of a file that is the one that was read
+pub counted_as : {was text out : Bytes} {m n : ℕ} → Wrote was text out m → n ≡ m → Wrote was text out n
+counted_as {was} {text} {out} w e = subst (λ (k : ℕ). Wrote was text out k) (sym e) w
+
+pub shown_as : (input out : Bytes) {m n : ℕ} → Prints input out m → n ≡ m → Prints input out n
+shown_as input out p e = subst (λ (k : ℕ). Prints input out k) (sym e) p
+
+pub read_as : {input given : Bytes} {t t' : Tables} {out out' : Bytes} {r : Ran} → Replays given t t' out out' r → given ≡ input → Replays input t t' out out' r
+read_as {t = t} {t'} {out} {out'} {r} p e = subst (λ (x : Bytes). Replays x t t' out out' r) e p

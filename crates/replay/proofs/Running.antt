@@ -26,7 +26,7 @@ use Rattle.replay.specs.declared.each.Progress.{Progress}
 use Rattle.replay.specs.declared.each.Lent.{Lent}
 use Rattle.replay.specs.declared.file.Ran.{Ran}
 use Rattle.replay.specs.Run.{Ends, Replays, acted, one, sized, start, stopping, through, whole}
-use Rattle.replay.specs.Steps.{Begins, Coming, Going, Keeps, Onward, Steps, lent}
+use Rattle.replay.specs.Steps.{Begins, Coming, Going, Held, Keeps, Onward, Steps, lent, place_of}
 use Rattle.replay.proofs.Standing.{command_done}
 
 -- ---- the file, from a place on
@@ -48,30 +48,32 @@ module _ (input : Bytes) (at : ℕ) where
 -- ---- a command done
 module _ (input : Bytes) {t t' : Tables} {o o' : Out} {tally : Tally} {at : ℕ} (c : Command) (w : Told) {next : ℕ}
     (read : command_read input at ≡ command c next) (acts : Acts c t t' w) (says : Appends (line tally.commands w) o o') where
-  pub went_on : (t₀ : Tables) (out₀ : Bytes) → Going input t₀ t out₀ o (record { tally = tally; next = Some at }) → Going input t₀ t' out₀ o' (record { tally = counted w tally; next = Some next })
+  pub went_on : (t₀ : Tables) (out₀ : Bytes) → Going input t₀ t out₀ o at (record { tally = tally; next = Some at }) → Going input t₀ t' out₀ o' at (record { tally = counted w tally; next = Some next })
   went_on t₀ out₀ g =
       let s = g.state in
       let far = progress input at c next read in
       let first : at ≡ 0 → (owner : ℕ) × (c ≡ open_by owner) = λ z. first_opens input c next (subst (λ (n : ℕ). command_read input n ≡ command c next) z read) in
-      let d = command_done t₀ t t' at next (λ z. omega (arith, far.0)) w c s.held g.coming.1 first acts in
+      let d = command_done t₀ t t' at next (λ z. omega (arith, far.0)) w c s.held g.tables first acts in
       let a = acted (sized t₀) c s.held in
       let same : ◌≡◌ {A = Bytes} (line tally.commands w) (line s.tally.commands a.told) = (λ i. line (g.tally i).commands (d.told_as i)) in
       record {
         state = one (sized t₀) c s;
         lines = subst (λ (x : Bytes). Wrote out₀ (s.text ++ x) o'.row.now o'.at) same (says.then out₀ s.text g.lines);
         tally = (λ i. counted (d.told_as i) (g.tally i));
-        coming = (g.coming.0 ∙ ap (λ f. through (sized t₀) f s) (reads_on input at c next read), d.held_then, far.1);
+        tables = d.held_then;
+        coming = g.coming ∙ ap (λ f. through (sized t₀) f s) (reads_on input at c next read);
       }
 
 -- ---- the end, and a fault
 module _ (input : Bytes) {t : Tables} {o o' : Out} {tally : Tally} {at : ℕ} (stop : Option Stop)
     (read : read_from (suc (length input)) input at ≡ empty stop) (says : Appends (line_of_stop stop) o o') where
-  stopped_there : (t₀ : Tables) (out₀ : Bytes) → Going input t₀ t out₀ o (record { tally = tally; next = Some at }) → Going input t₀ t out₀ o' (record { tally = tally; next = None })
+  stopped_there : (t₀ : Tables) (out₀ : Bytes) → Going input t₀ t out₀ o at (record { tally = tally; next = Some at }) → Going input t₀ t out₀ o' at (record { tally = tally; next = None })
   stopped_there t₀ out₀ g = record {
     state = stopping (line_of_stop stop) g.state;
     lines = says.then out₀ g.state.text g.lines;
     tally = g.tally;
-    coming = (g.coming.0 ∙ ap (λ f. through (sized t₀) f g.state) read, g.coming.1.ends);
+    tables = g.tables;
+    coming = g.coming ∙ ap (λ f. through (sized t₀) f g.state) read;
   }
 
 -- nothing is said at the end
@@ -80,15 +82,18 @@ unfolding line_of_stop
 silent o = nothing o
 
 module _ (input : Bytes) {t : Tables} {o : Out} {tally : Tally} {at : ℕ} where
-  pub ended_there : command_read input at ≡ end → (t₀ : Tables) (out₀ : Bytes) → Going input t₀ t out₀ o (record { tally = tally; next = Some at })
-      → Going input t₀ t out₀ o (record { tally = tally; next = None })
+  pub ended_there : command_read input at ≡ end → (t₀ : Tables) (out₀ : Bytes) → Going input t₀ t out₀ o at (record { tally = tally; next = Some at })
+      → Going input t₀ t out₀ o at (record { tally = tally; next = None })
   ended_there e = stopped_there input none (reads_end input at e) (silent o)
 
   pub fault_there : {o' : Out} (s : Stop) → command_read input at ≡ stopped_by s.fault s.place → Appends (line_of_stop (some s)) o o'
-      → (t₀ : Tables) (out₀ : Bytes) → Going input t₀ t out₀ o (record { tally = tally; next = Some at }) → Going input t₀ t out₀ o' (record { tally = tally; next = None })
+      → (t₀ : Tables) (out₀ : Bytes) → Going input t₀ t out₀ o at (record { tally = tally; next = Some at }) → Going input t₀ t out₀ o' at (record { tally = tally; next = None })
   fault_there s e says = stopped_there input (some s) (reads_stop input at s e) says
 
 -- ---- the start
+not_started : (t : Tables) → Held t t 0 none
+not_started t = record { ends = refl; present_then = λ n _. absurd (n refl); unsized = λ _. refl }
+
 unwritten : (out : Bytes) → Wrote out [] out 0
 unwritten out = let e = take-nil {A = ℕ} (length out) in record { bytes = ap (λ (x : Bytes). x ++ out) (sym e); count = ap length (sym e) }
 
@@ -104,8 +109,10 @@ begun input o tally z e = record {
         state = start;
         lines = rw front (unwritten o.row.now);
         tally = z;
-        coming = (rw e refl, record { ends = refl; present_then = λ n _. absurd (n refl); unsized = λ _. refl }, omega arith);
+        tables = not_started t;
+        coming = rw e refl;
       };
+  onward = omega arith;
 }
 
 pub never_begun : (input : Bytes) (o o' : Out) (tally : Tally) → tally ≡ no_tally → too_long input ≡ true → Appends (line_of_stop (some too_long_stop)) o o'
@@ -118,16 +125,18 @@ never_begun input o o' tally z e says = record {
         state = stopping (line_of_stop (some too_long_stop)) start;
         lines = says.then o.row.now [] (rw front (unwritten o.row.now));
         tally = z;
-        coming = (rw e refl, refl);
+        tables = not_started t;
+        coming = rw e refl;
       };
+  onward = omega arith;
 }
 
 -- ---- the end
-pub ran : (input : Bytes) {t t' : Tables} {out : Bytes} {o o' : Out} (p : Progress) → p.next ≡ None → Going input t t' out o p → Appends (end_line p.tally) o o'
+pub ran : (input : Bytes) {t t' : Tables} {out : Bytes} {o o' : Out} {at : ℕ} (p : Progress) → p.next ≡ None → Going input t t' out o at p → Appends (end_line p.tally) o o'
     → Replays input t t' out o'.row.now (record { tally = p.tally; wrote = o'.at })
 ran input {t} {t'} {out} p e g says =
-    let c = subst (λ (n : CodeOption ℕ). Coming input t t' n g.state) e g.coming in
-    record { lines = rw (c.0, ← g.tally) (says.then out g.state.text g.lines); tally = rw c.0 g.tally; tables = rw c.0 c.1 }
+    let c : whole (sized t) input ≡ g.state = subst (λ (n : CodeOption ℕ). Coming (sized t) input n g.state) e g.coming in
+    record { lines = rw (c, ← g.tally) (says.then out g.state.text g.lines); tally = rw c g.tally; tables = rw c g.tables.ends }
 
 -- as a caller's `&out[..wrote]` asks
 pub wrote_counts : (was text : Bytes) {out : Bytes} {n : ℕ} → Wrote was text out n → IsPrefixLen n out
@@ -140,11 +149,12 @@ pub came_back : (a : Lent) {input : Bytes} {t : Tables} {out o o' x : Bytes} {b 
     → b ≡ a.book.now → k ≡ a.keys.now → x ≡ a.texts.now → o ≡ o' → Replays input t (tables b k x) out o r
 came_back a p e f g h = rw (e, f, g, h) p
 
--- ---- the loop of steps: the run goes on, on what it was lent
+-- ---- the loop of steps: the run goes on, on what it was lent; the last step was taken `from` there
 pub record Under (input : Bytes) (t₀ : Tables) (out₀ : Bytes) (a b : Lent) (o o' : Out) (p : Progress) : Type 0 where
   pub keeps : Keeps a b
   pub row : o'.row.ghost_name ≡ o.row.ghost_name
-  pub going : Going input t₀ (lent b) out₀ o' p
+  pub from : ℕ
+  pub going : Going input t₀ (lent b) out₀ o' from p
 
 abbrev pub left : ℕ → CodeOption ℕ → ℕ
 left n (Some at) = suc (n - at)
@@ -152,14 +162,18 @@ left n None = 0
 
 module _ (input : Bytes) {t₀ : Tables} {out₀ : Bytes} {a b c : Lent} {o o' o'' : Out} {p q : Progress} {at : ℕ}
     (more : p.next ≡ Some at) (u : Under input t₀ out₀ a b o o' p) (s : Steps input b c o' o'' p.tally at q) where
-  here : Going input t₀ (lent b) out₀ o' (record { tally = p.tally; next = Some at })
-  here = subst (λ (n : CodeOption ℕ). Going input t₀ (lent b) out₀ o' (record { tally = p.tally; next = n })) more u.going
+  -- where the run goes on, it stands at the next command, wherever it came from
+  here : Going input t₀ (lent b) out₀ o' at (record { tally = p.tally; next = Some at })
+  here =
+      let g = u.going in
+      let held : Held t₀ (lent b) at g.state.held = subst (λ (n : CodeOption ℕ). Held t₀ (lent b) (place_of u.from n) g.state.held) more g.tables in
+      record { state = g.state; lines = g.lines; tally = g.tally; tables = held; coming = subst (λ (n : CodeOption ℕ). Coming (sized t₀) input n g.state) more g.coming }
 
   pub under_more : Under input t₀ out₀ a c o o'' q
   under_more =
       let k = u.keeps in
       let m = s.keeps in
-      record { keeps = record { book = m.book ∙ k.book; keys = m.keys ∙ k.keys; texts = m.texts ∙ k.texts }; row = s.row ∙ u.row; going = s.goes t₀ out₀ here }
+      record { keeps = record { book = m.book ∙ k.book; keys = m.keys ∙ k.keys; texts = m.texts ∙ k.texts }; row = s.row ∙ u.row; from = at; going = s.goes t₀ out₀ here }
 
   -- it ends: each step reads on, or is the last
   pub nearer : left (length input) q.next < left (length input) p.next

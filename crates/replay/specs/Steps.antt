@@ -1,5 +1,5 @@
 -- A run under way: what stands at a place of the input, and the promise of one step from there. Assumes nothing.
-use Rattle.std.specs.Prelude.{◌≡◌, true, false, ℕ, suc, ◌≤◌, ◌<◌, length, Option, Some, None}
+use Rattle.std.specs.Prelude.{◌≡◌, Bool, true, false, ℕ, suc, ◌≤◌, ◌<◌, length, Option, Some, None}
 use Rattle.std.proofs.Math.Option.{Option as Held·Option}
 use Rattle.machine.specs.Tests.{present}
 use Rattle.machine.specs.Types.{Bytes, Ledger}
@@ -27,16 +27,22 @@ pub record Held (t₀ t : Tables) (place : ℕ) (h : Held·Option Ledger) : Type
   pub present_then : (place ≡ 0 → ⊥) → sized t₀ ≡ true → present h ≡ true
   pub unsized : sized t₀ ≡ false → present h ≡ false
 
--- what is still to come: the rest of the file from the next command's place on, where a ledger stands if it is not the first; or nothing
-abbrev pub Coming : Bytes → Tables → Tables → Option ℕ → State → Type 0
-Coming input t₀ t (Some at) s = (whole (sized t₀) input ≡ through (sized t₀) (read_from (suc (length input)) input at) s) × Held t₀ t at s.held × (at ≤ length input)
-Coming input t₀ t None s = (whole (sized t₀) input ≡ s) × Ends t₀ t s.held
+-- what is still to come: the rest of the file from the next command's place on, or nothing
+abbrev pub Coming : Bool → Bytes → Option ℕ → State → Type 0
+Coming fit input (Some at) s = whole fit input ≡ through fit (read_from (suc (length input)) input at) s
+Coming fit input None s = whole fit input ≡ s
 
-pub record Going (input : Bytes) (t₀ t : Tables) (out₀ : Bytes) (o : Out) (p : Progress) : Type 0 where
+-- the place that a run at `at` has come to: the next command's, or still this where it ended
+abbrev pub place_of : ℕ → Option ℕ → ℕ
+place_of at (Some next) = next
+place_of at None = at
+
+pub record Going (input : Bytes) (t₀ t : Tables) (out₀ : Bytes) (o : Out) (at : ℕ) (p : Progress) : Type 0 where
   pub state : State
   pub lines : Wrote out₀ state.text o.row.now o.at
   pub tally : p.tally ≡ state.tally
-  pub coming : Coming input t₀ t p.next state
+  pub tables : Held t₀ t (place_of at p.next) state.held
+  pub coming : Coming (sized t₀) input p.next state
 
 -- a step reads on, within the input, or is the last
 abbrev pub Onward : ℕ → ℕ → Option ℕ → Type 0
@@ -47,10 +53,11 @@ Onward n at None = Unit {0}
 pub record Steps (input : Bytes) (a b : Lent) (o o' : Out) (tally : Tally) (at : ℕ) (p : Progress) : Type 0 where
   pub keeps : Keeps a b
   pub row : o'.row.ghost_name ≡ o.row.ghost_name
-  pub goes : (t₀ : Tables) (out₀ : Bytes) → Going input t₀ (lent a) out₀ o (record { tally = tally; next = Some at }) → Going input t₀ (lent b) out₀ o' p
+  pub goes : (t₀ : Tables) (out₀ : Bytes) → Going input t₀ (lent a) out₀ o at (record { tally = tally; next = Some at }) → Going input t₀ (lent b) out₀ o' at p
   pub onward : Onward (length input) at p.next
 
 -- the start of a run
 pub record Begins (input : Bytes) (o o' : Out) (p : Progress) : Type 0 where
   pub row : o'.row.ghost_name ≡ o.row.ghost_name
-  pub goes : (t₀ : Tables) → o.at ≡ 0 → Going input t₀ t₀ o.row.now o' p
+  pub goes : (t₀ : Tables) → o.at ≡ 0 → Going input t₀ t₀ o.row.now o' 0 p
+  pub onward : place_of 0 p.next ≤ length input

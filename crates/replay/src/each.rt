@@ -5,12 +5,13 @@ use acts::act;
 use commands::read_command;
 use lines::{Out, Tally, counted};
 
-// The tables that a run is lent.
+// The tables that a run is lent, and its row for a page's request numbers: one for all steps, as each would clear its own.
 #[derive(Drop)]
 pub struct Lent<'a> {
     pub book: &'a mut [[u64; 6]],
     pub keys: &'a mut [[u8; 32]],
     pub texts: &'a mut [u8],
+    pub requests: &'a mut [u64; 100],
 }
 
 // How far a run has come: its tally, and the place of the next command, if it goes on.
@@ -33,7 +34,7 @@ impl Lent<'_> {
     {
         match read_command(input, at) {
             Ok(Some((command, next))) => {
-                let answer = act(self.book, self.keys, self.texts, command);
+                let answer = act(self.book, self.keys, self.texts, command, self.requests);
                 lines.answer_line(tally.commands, answer);
                 Progress {
                     tally: counted(tally, answer),

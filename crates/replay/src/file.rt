@@ -49,7 +49,13 @@ pub fn run(
         out.old out.new result }
     ensures prefix_len { IsPrefixLen result.wrote out.new }
 {
-    let mut tables = Lent { book, keys, texts };
+    let mut requests = [0; 100];
+    let mut tables = Lent {
+        book,
+        keys,
+        texts,
+        requests: &mut requests,
+    };
     let mut lines = Out { row: out, at: 0 };
     let mut p = first(input, &mut lines);
     while let Some(at) = p.next {

@@ -5,4 +5,5 @@ mod each;
 mod file;
 mod lent;
 
+pub use each::Progress;
 pub use file::{Ran, run};

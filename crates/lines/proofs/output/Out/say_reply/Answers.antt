@@ -7,4 +7,4 @@ use Rattle.lines.proofs.output.Out.say_reply.Goals as goal
 pub returns-in-Page : goal.returns-in-Page
 unfolding said
 returns-in-Page c =
-    rw c.in-Page.is (then_more c.push.ensures (then_more c.push_counted.ensures (rw (← take_min c.in-Page.count c.in-Page.requests, ← c.min.ensures) c.push_numbers-in-Page.ensures)))
+    rw c.in-Page.is (then_more c.push.ensures (then_more c.push_counted.ensures (rw (← take_min c.in-Page.count c.in-Page.requests.now, ← c.min.ensures) c.push_numbers-in-Page.ensures)))
