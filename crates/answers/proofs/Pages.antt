@@ -1,16 +1,20 @@
--- What a page leaves in its lent row, by its answer; and both pages tell the same: the numbers are those of the records. Assumes nothing.
+-- What a page leaves in its lent row, by its answer; and its three forms tell the same: in a record of its own it is one in an empty row, and its numbers are those of its records. Assumes nothing.
 use Rattle.std.proofs.Common.{Bool, cond, false, true, inl, inr, ◌∙◌, ◌≡◌, ap, refl, sym, ltb, drop, length, List, [], ◌++◌, ◌∷◌, map, suc, zero, ℕ, Ok}
+use Rattle.std.specs.Prelude.{Result}
 use Rattle.std.specs.Result.{IsErr, is_err}
 use lib.ListN.{length-map}
 use mathlib.Core.List.{map-append, map-id}
 use Rattle.answers.proofs.Doing.{does_as}
-use Rattle.answers.specs.Answers.{PageOut, as_is, entry_row, paged}
-use Rattle.answers.specs.Calls.{page_call}
+use Rattle.answers.specs.Answers.{PageOut, apart, as_is, entry_row, no_entries, page_in, paged}
+use Rattle.answers.specs.Calls.{page_call, page_in_call}
 use Rattle.answers.specs.Does.{Does}
+use Rattle.answers.specs.declared.Page.{Page}
 use Rattle.machine.specs.Plan.{Outcome, did, outcome, refused}
 use Rattle.machine.specs.Reads.{entries, page_into}
+use Rattle.machine.specs.Rooms.{page_limit}
 use Rattle.machine.specs.Types.{Ledger}
 use Rattle.records.specs.declared.PageEntry.{PageEntry}
+use Rattle.records.specs.declared.refusal.Refusal.{Refusal}
 use Rattle.records.specs.declared.refusal.Refusal.TheVariants.{PageRoom}
 use Rattle.tables.specs.Tables.{Stands, Tables}
 
@@ -42,6 +46,16 @@ module _ {A : Type 0} (f : PageEntry → A) (rows : List A) where
         → (n ≡ length (entries L from limit)) × (r.rows ≡ map f (entries L from limit) ++ drop (length (entries L from limit)) rows)
     unfolding page_call
     page_filled L st h = filled (entries L from limit) (ltb (length rows) (length (entries L from limit))) r (d.sound L st).0 h
+
+-- ---- a page in a record of its own
+set_apart : (o : Outcome (List PageEntry)) → apart (page_in o) ≡ paged as_is no_entries o
+set_apart (refused e) = refl
+set_apart (did es) = ap (λ (l : List PageEntry). record { answer = Ok (length es); rows = l ++ drop (length es) no_entries }) (sym (map-id es))
+
+-- so whatever holds of a page in a lent row holds of it
+pub page_apart : (from limit : ℕ) {t u : Tables} {r : Result Page Refusal} → Does (page_in_call from limit) t u r → Does (page_call as_is no_entries from limit) t u (apart r)
+unfolding page_call page_in_call
+page_apart from limit d = does_as apart refl (λ L. set_apart (outcome (page_into L from limit page_limit))) (λ L. refl) d refl
 
 -- ---- records and numbers
 -- a page of records, with each as a row of numbers

@@ -78,3 +78,8 @@ no_entries = replicate 100 empty_entry
 
 abbrev pub page_in : Outcome (List PageEntry) → Result Page Refusal
 page_in o = told (λ es. record { count = length es; entries = es ++ drop (length es) no_entries }) o
+
+-- and the same as a lent row tells it: the count, and the row; a refusal leaves the row with nothing in it
+abbrev pub apart : Result Page Refusal → PageOut PageEntry
+apart (Ok p) = record { answer = Ok p.count; rows = p.entries }
+apart (Err e) = record { answer = Err e; rows = no_entries }

@@ -1,12 +1,13 @@
--- What a page of records shows, by the public promise: record k is slot `start` + k and its request's proof, and records past the page are as they were lent. Assumes nothing.
+-- What a page of records shows, by the public promise: record k is slot `start` + k and its request's proof, and records past the page are as they were lent, or empty. Assumes nothing.
 use Rattle.std.proofs.Common.{inl, inr, ◌∙◌, ◌≡◌, ap, refl, subst, drop, length, List, ◌++◌, arith, ◌+◌, ◌<◌, ℕ, Ok}
 use mathlib.Core.List.{map-id}
 use mathlib.Core.Option.{some}
 use lib.Seq.{drop-append_seam}
-use Rattle.answers.proofs.Pages.{page_filled}
-use Rattle.answers.specs.Answers.{PageOut, as_is}
-use Rattle.answers.specs.Calls.{page_call}
+use Rattle.answers.proofs.Pages.{page_apart, page_filled}
+use Rattle.answers.specs.Answers.{PageOut, as_is, no_entries}
+use Rattle.answers.specs.Calls.{page_call, page_in_call}
 use Rattle.answers.specs.Does.{Does}
+use Rattle.answers.specs.declared.Page.{Page}
 use Rattle.lists.proofs.Places.{at_append}
 use Rattle.lists.specs.Places.{At}
 use Rattle.machine.proofs.Pages.{page_entry}
@@ -34,3 +35,12 @@ module _ {t u : Tables} (L : Ledger) (st : Stands t L) (page : List PageEntry) (
 
   pub past_the_page : drop n r.rows ≡ drop n page
   past_the_page = ap (λ (l : List PageEntry). drop n l) page_is.1 ∙ rw page_is.0 (drop-append_seam es (drop (length es) page))
+
+-- ---- the same of a page in a record of its own
+module _ {t u : Tables} (L : Ledger) (st : Stands t L) (start limit : ℕ) {p : Page} (d : Does (page_in_call start limit) t u (Ok p)) where
+  pub own_record_read : {k : ℕ} {e : PageEntry} → k < p.count → At p.entries k e
+      → (q : Texted ApprovalProof) × (approval L e.request_id.0 ≡ some q) × (e ≡ entry (start + k) q.is)
+  own_record_read = record_read L st no_entries start limit (page_apart start limit d) refl
+
+  pub empty_past_the_page : drop p.count p.entries ≡ drop p.count no_entries
+  empty_past_the_page = past_the_page L st no_entries start limit (page_apart start limit d) refl

@@ -7,7 +7,7 @@ use Rattle.demands.specs.Runs.{Calls, Heard}
 use Rattle.machine.specs.Types.{Change}
 use Rattle.tables.specs.Tables.{Tables}
 
--- what has been read so far: the rows of each page, one page after the other. A page of records counts as that of its numbers (`crates/answers/proofs/Pages.antt`, `entries_are_numbers`)
+-- what has been read so far: the rows of each page, one page after the other. Each form of a page counts as that of its numbers (`crates/answers/proofs/Pages.antt`)
 pub data Walked (limit : ℕ) (t : Tables) : List (List ℕ) → List (List Change) → Tables → Type 0 where
   not_yet : Walked limit t [] [] t
   a_page : {read : List (List ℕ)} {css : List (List Change)} {u v w : Tables} {out : PageOut (List ℕ)} {k : ℕ} {cs : List Change} {hs : List Heard} (room : List (List ℕ)) → Walked limit t read css u
