@@ -1,9 +1,8 @@
 -- `replay::each::Lent::stepped` meets its contract: a command is done, and told.
-use Rattle.std.proofs.Common.{arith, refl}
-use Rattle.commands.proofs.Progress.{progress}
+use Rattle.std.proofs.Common.{refl}
 use Rattle.commands.specs.Answers.{meant}
 use Rattle.lines.specs.Replies.{told}
-use Rattle.replay.proofs.Running.{went_on}
+use Rattle.replay.proofs.Running.{further, went_on}
 use Rattle.replay.proofs.each.Lent.stepped.Goals as goal
 
 pub returns-in-Ok-Some : goal.returns-in-Ok-Some
@@ -12,6 +11,6 @@ returns-in-Ok-Some c =
     record {
       keeps = record { book = refl; keys = refl; texts = refl };
       row = c.answer_line.ensures.row;
-      goes = rw c.counted.ensures (went_on c.args.input.now (meant c.in-Ok-Some.command) (told c.act-answer.result) r.means c.act-answer.ensures c.answer_line.ensures);
-      onward = let p = progress c.args.input.now c.args.at _ _ r.means in (omega (arith, p.0), p.1);
+      goes = λ t₀ out₀ g. rw c.counted.ensures (went_on c.args.input.now (meant c.in-Ok-Some.command) (told c.act-answer.result) r.means c.act-answer.ensures c.answer_line.ensures t₀ out₀ g).0;
+      onward = further c.args.input.now c.args.at _ _ r.means;
     }
